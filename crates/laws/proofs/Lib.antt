@@ -1,0 +1,5 @@
+pub mod Lending
+pub mod Every
+pub mod Span
+pub mod Choice
+pub mod Numbers

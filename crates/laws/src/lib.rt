@@ -1,0 +1,1 @@
+// Numbers in bytes, lowest byte first: what every layer above reads and writes.
