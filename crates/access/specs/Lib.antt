@@ -1,0 +1,3 @@
+pub mod Accesses
+pub mod Privileges
+pub mod Exceptions

@@ -1,0 +1,39 @@
+// How operands are used, which privilege an instruction needs, and which exceptions it may raise.
+
+// How an operand is used.
+pub enum Access {
+    None,
+    Read,
+    Write,
+    ReadWrite,
+}
+
+// The privilege level that an instruction needs.
+pub enum PrivilegeLevel {
+    Any,
+    PL0,
+    Special,
+    Reserved,
+}
+
+// An exception vector, as the processor numbers them.
+pub struct Exception {
+    pub vector: u8,
+}
+
+// A set of exception vectors: bit k for vector k.
+pub struct ExceptionInfo {
+    pub vectors: u32,
+}
+
+// What setting a vector answers: the set in `info`, or a refusal number and the empty set.
+pub struct InfoAnswer {
+    pub number: u8,
+    pub info: ExceptionInfo,
+}
+
+// What asking for a vector answers.
+pub struct MayAnswer {
+    pub number: u8,
+    pub may: bool,
+}

@@ -1,0 +1,94 @@
+-- A record of kind 0x10, from its 40 bytes.
+use Prim.Native.Nat.{ℕ, _+_}
+use mathlib.Core.List.{List, [], _∷_}
+use mathlib.Core.Bool.{Bool, not, cond, _&&_}
+use lib.ListN.{length, getD, replicate}
+use lib.Dec.{ltb, eqb}
+use Rattle.laws.specs.Words.{numberAt, bit}
+use Rattle.laws.specs.Tests.{any, someOf, firstOf}
+use Rattle.registers.specs.Banks.{reg, isRegister}
+use Rattle.registers.specs.declared.RegSpec.{RegSpec}
+use Rattle.digest.specs.Digests.{emptyDigest}
+use Rattle.record.specs.declared.Record.{Record}
+use Rattle.record.specs.declared.RecordAnswer.{RecordAnswer}
+
+-- refusal 1 where this fails
+unfoldable pub isRecord : List ℕ → Bool
+isRecord b = eqb (length b) 40 && eqb (getD b 0 0) 0x10
+
+abbrev pub regFrom : List ℕ → ℕ → RegSpec
+regFrom b i = reg (getD b i 0) (getD b (i + 1) 0)
+
+unfoldable pub recordOf : List ℕ → Record
+recordOf b =
+    record {
+      opcode = numberAt b 1 2;
+      count = getD b 3 0;
+      specs = getD b 4 0 ∷ getD b 5 0 ∷ getD b 6 0 ∷ getD b 7 0 ∷ [];
+      regs = regFrom b 8 ∷ regFrom b 10 ∷ regFrom b 12 ∷ regFrom b 14 ∷ [];
+      size = getD b 16 0;
+      scale = getD b 17 0;
+      disp = numberAt b 18 8;
+      imm = numberAt b 26 8;
+      prefixes = getD b 34 0;
+      mask = getD b 35 0;
+      digest = record { behavior = getD b 36 0; operands = getD b 37 0; extra = numberAt b 38 2 };
+    }
+
+-- refusal 2
+unfoldable pub outside : Record → Bool
+outside x =
+    someOf
+    (ltb 4 (x .count)
+    ∷ any (λ (s : ℕ). ltb 35 s) (x .specs)
+    ∷ any (λ (y : RegSpec). not (isRegister (y .bank) (y .number))) (x .regs)
+    ∷ ltb 64 (x .size)
+    ∷ ltb 15 (x .prefixes)
+    ∷ ltb 7 (x .mask)
+    ∷ ltb 28 (x .digest .extra)
+    ∷ [])
+
+-- the refusal that the bytes of a record alone give, 0 for none
+unfoldable pub recordRefusal : List ℕ → ℕ
+recordRefusal b = firstOf ((not (isRecord b), 1) ∷ (outside (recordOf b), 2) ∷ [])
+
+-- a record whose numbers are all 0
+unfoldable pub noRecord : Record
+noRecord =
+    record {
+      opcode = 0;
+      count = 0;
+      specs = replicate 4 0;
+      regs = replicate 4 (reg 0 0);
+      size = 0;
+      scale = 0;
+      disp = 0;
+      imm = 0;
+      prefixes = 0;
+      mask = 0;
+      digest = emptyDigest;
+    }
+
+-- the record, or the refusal and every other number 0
+unfoldable pub recordAnswer : List ℕ → RecordAnswer
+recordAnswer b =
+    cond (eqb (recordRefusal b) 0) (record { number = 0; read = recordOf b }) (record { number = recordRefusal b; read = noRecord })
+
+-- The parts of a record that the rules ask for
+abbrev pub specAt : Record → ℕ → ℕ
+specAt x i = getD (x .specs) i 0
+
+abbrev pub regAt : Record → ℕ → RegSpec
+regAt x i = getD (x .regs) i (reg 0 0)
+
+abbrev pub vexW : Record → Bool
+vexW x = bit (x .prefixes) 0
+
+abbrev pub rexW : Record → Bool
+rexW x = bit (x .prefixes) 1
+
+abbrev pub operandSize : Record → Bool
+operandSize x = bit (x .prefixes) 2
+
+abbrev pub addressSize : Record → Bool
+addressSize x = bit (x .prefixes) 3

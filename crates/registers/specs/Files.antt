@@ -1,0 +1,77 @@
+-- A register file, from its bytes, and what it answers of a register.
+use Prim.Native.Nat.{ℕ, zero, suc, _+_, _-_, _^_, _/_, _%_}
+use mathlib.Core.List.{List, [], _∷_}
+use mathlib.Core.Bool.{Bool, cond, _&&_}
+use lib.ListN.{length, getD, replicate}
+use lib.Dec.{ltb, eqb}
+use Rattle.laws.specs.Words.{numberAt, bit}
+use Rattle.registers.specs.Banks.{isRegister}
+use Rattle.registers.specs.declared.RegSpec.{RegSpec}
+use Rattle.registers.specs.declared.RegisterFile.{RegisterFile}
+use Rattle.registers.specs.declared.FileAnswer.{FileAnswer}
+use Rattle.registers.specs.declared.Value.{Value}
+use Rattle.registers.specs.declared.Value.the-variants.{Known, Unknown}
+
+-- the numbers of 8 bytes that stand from place i on
+unfoldable pub numbersFrom : List ℕ → ℕ → ℕ → List ℕ
+numbersFrom b i zero = []
+numbersFrom b i (suc n) = numberAt b i 8 ∷ numbersFrom b (i + 8) n
+
+-- 141 bytes: kind 0x20; 4 bytes of known bits; 17 values of 8 bytes
+unfoldable pub fileOf : List ℕ → RegisterFile
+fileOf b = record { values = numbersFrom b 5 17; known = numberAt b 1 4 }
+
+unfoldable pub isFile : List ℕ → Bool
+isFile b = eqb (length b) 141 && eqb (getD b 0 0) 0x20 && ltb (numberAt b 1 4) (2 ^ 17)
+
+-- a file that knows nothing
+unfoldable pub noFile : RegisterFile
+noFile = record { values = replicate 17 0; known = 0 }
+
+-- the file, or refusal 3
+unfoldable pub fileAnswer : List ℕ → FileAnswer
+fileAnswer b = cond (isFile b) (record { number = 0; file = fileOf b }) (record { number = 3; file = noFile })
+
+-- the part of a full register that a register is: the slot of the file that it lies in, the bits below it, and its own bits
+pub record Part : Type 0 where
+  pub slot : ℕ
+  pub below : ℕ
+  pub bits : ℕ
+
+abbrev pub part : ℕ → ℕ → ℕ → Part
+part s b w = record { slot = s; below = b; bits = w }
+
+-- no part of any register of a file
+abbrev pub nowhere : Part
+nowhere = part 17 0 0
+
+-- Q whole, D the low 32 bits, W the low 16, rB and B 0-3 the low 8, B 4-7 bits 8-15 of register number minus 4, RIP, EIP its low 32 bits
+unfoldable pub partOf : RegSpec → Part
+partOf x =
+    cond (isRegister (x .bank) (x .number))
+    (getD
+    (part (x .number) 0 64
+    ∷ part (x .number) 0 32
+    ∷ part (x .number) 0 16
+    ∷ part (x .number) 0 8
+    ∷ cond (ltb (x .number) 4) (part (x .number) 0 8) (part (x .number - 4) 8 8)
+    ∷ nowhere ∷ nowhere ∷ nowhere ∷ nowhere
+    ∷ part 16 0 64
+    ∷ part 16 0 32
+    ∷ [])
+    (x .bank)
+    nowhere)
+    nowhere
+
+-- what a file answers of one of its slots
+unfoldable pub slotOf : RegisterFile → ℕ → Value
+slotOf f k = cond (ltb k 17 && bit (f .known) k) (Known (getD (f .values) k 0)) Unknown
+
+-- what a value gives, unknown where it is
+abbrev pub after : Value → (ℕ → Value) → Value
+after (Known v) k = k v
+after Unknown k = Unknown
+
+-- what a file answers of a register; one that the table has not is unknown
+unfoldable pub valueOf : RegisterFile → RegSpec → Value
+valueOf f x = after (slotOf f (partOf x .slot)) (λ v. Known (v / 2 ^ (partOf x .below) % 2 ^ (partOf x .bits)))
