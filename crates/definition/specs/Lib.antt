@@ -1,0 +1,10 @@
+pub mod Tables
+pub mod Behaviors
+pub mod Addresses
+pub mod Steps
+pub mod Logs
+pub mod Refusals
+pub mod Visits
+pub mod Listings
+pub mod Readings
+pub mod Limits
