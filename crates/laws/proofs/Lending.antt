@@ -1,12 +1,13 @@
 -- The laws of `Logged`: nothing written, one segment more through the part that is lent on, and the room that is left. They hold
 -- for the bytes of anything: events of a log, steps of a visit, items of a listing. Assumes nothing.
-use Prim.Native.Nat.{ℕ, zero, suc, _+_, _-_, _^_, _≤_, _<_}
+use Prim.Native.Nat.{ℕ, suc, _+_, _-_, _^_, _≤_, _<_}
 use native.Mathlib.Nat.{le-refl}
+use native.Mathlib.Numerals.{add-one}
 use native.Mathlib.Omega.{arith}
-use mathlib.Core.Path.{_≡_, refl, sym, ap, ap₂, _∙_}
+use mathlib.Core.Path.{_≡_, refl, sym, ap, _∙_}
 use mathlib.Core.List.{List, [], _∷_, _++_, append-assoc, append-nil}
-use lib.ListN.{length, take, drop, length-append, length-take, length-drop, drop-of-length-le}
-use lib.Seq.{take-all, take-at, drop-at, drop-drop, length-take-le}
+use lib.ListN.{length, take, drop, set, getD, length-append, length-drop, drop-of-length-le}
+use lib.Seq.{take-all, take-at, drop-at, drop-cons, drop-drop, set-at, append-snoc}
 use mir.Val.{Fits}
 use mir.Syntax.{w64}
 use Rattle.laws.specs.Lists.{each, flat}
@@ -36,6 +37,10 @@ laid xs ys old {mid} {new} {m} n long a b =
     let rest : drop m mid ≡ drop m old = rw a (drop-at xs (drop m old) m long) in
     back-is mid m new
     ∙ rw (front, b, part-is mid m, rest, drop-drop n m old, append-assoc xs ys (drop (m + n) old))
+
+-- one byte more, stored behind those that are laid
+pub stored : (xs old : List ℕ) (v : ℕ) {m : ℕ} → length xs ≡ m → m < length old → set (xs ++ drop m old) m v ≡ (xs ++ (v ∷ [])) ++ drop (m + 1) old
+stored xs old v {m} long h = rw (drop-cons old m 0 h, set-at xs (getD old m 0) (drop (suc m) old) v m long, add-one m, append-snoc xs v (drop (suc m) old))
 
 module _ {A : Type 0} (enc : A → List ℕ) where
   pub each-append : (xs ys : List A) → each enc (xs ++ ys) ≡ each enc xs ++ each enc ys

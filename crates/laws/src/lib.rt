@@ -1,5 +1,5 @@
-// Numbers in bytes, lowest byte first: what every layer above reads and writes. Each width is read as a pair of the width below,
-// and written a byte at a time, so that the compiler makes one load or one store of it.
+// Numbers in bytes, lowest byte first: what every layer above reads and writes. A width is a pair of the width below it, and what is
+// stored are single bytes: the compiler makes one load or one store of each number.
 ghost use mathlib.Core.Path.{_≡_};
 ghost use mathlib.Core.List.{_++_};
 ghost use Prim.Native.Nat.{_+_, _≤_, _<_};

@@ -1,3 +1,4 @@
+-- `laws::put_u32` meets its contract: the stores lay the number's bytes at the front. Assumes nothing.
 use Rattle.laws.specs.Words.{little}
 use native.Mathlib.Omega.{arith}
 use lib.ListN.{length-set}
@@ -5,8 +6,6 @@ use lib.Seq.{sets-eq}
 use borrow.Author.Needs.{needs}
 use Rattle.laws.proofs.put_u32.Statement.{statement}
 use Rattle.laws.proofs.put_u32.Tie as tie
-use Rattle.laws.proofs.put_u32.Reads as reads
-use Rattle.laws.proofs.put_u32.Lts as lts
 
 cast-out : tie.Need-cast-out
 cast-out c = search needs

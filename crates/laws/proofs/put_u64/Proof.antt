@@ -1,3 +1,5 @@
+-- `laws::put_u64` meets its contract: the bytes of the low half, then those of the high half behind them, are the number's bytes.
+-- Assumes nothing.
 use Prim.Native.Nat.{_^_, _/_, _%_}
 use Rattle.laws.specs.Words.{little}
 use Rattle.laws.proofs.Lending.{laid}
@@ -5,9 +7,6 @@ use Rattle.laws.proofs.Numbers.{little-length, little-pair}
 use borrow.Author.Needs.{needs}
 use Rattle.laws.proofs.put_u64.Statement.{statement}
 use Rattle.laws.proofs.put_u64.Tie as tie
-use Rattle.laws.proofs.put_u64.Reads as reads
-use Rattle.laws.proofs.put_u64.Lts as lts
-use Rattle.laws.proofs.put_u32.Reads as put-u32-reads
 
 cast-put-u32 : tie.Need-cast-put-u32
 cast-put-u32 c = search needs

@@ -1,11 +1,9 @@
+-- `laws::u16_at` meets its contract: the two bytes, by the definition. Assumes nothing.
 use Rattle.laws.specs.Words.{numberAt}
 use native.Mathlib.Omega.{arith}
 use borrow.Author.Needs.{needs}
 use Rattle.laws.proofs.u16_at.Statement.{statement}
 use Rattle.laws.proofs.u16_at.Tie as tie
-use Rattle.laws.proofs.u16_at.Reads as reads
-use Rattle.laws.proofs.u16_at.Lts as lts
-use Rattle.laws.proofs.wide.Reads as wide-reads
 
 shared-slice-read-wide : tie.Need-shared-slice-read-wide
 shared-slice-read-wide c = search needs

@@ -1,10 +1,8 @@
+-- `laws::u32_at` meets its contract: two numbers of two bytes are one of four. Assumes nothing.
 use Rattle.laws.proofs.Numbers.{number-pair}
 use borrow.Author.Needs.{needs}
 use Rattle.laws.proofs.u32_at.Statement.{statement}
 use Rattle.laws.proofs.u32_at.Tie as tie
-use Rattle.laws.proofs.u32_at.Reads as reads
-use Rattle.laws.proofs.u32_at.Lts as lts
-use Rattle.laws.proofs.u16_at.Reads as u16-at-reads
 
 u16-at-requires : tie.Need-u16-at-requires
 u16-at-requires c κs = search needs

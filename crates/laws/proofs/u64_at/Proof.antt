@@ -1,10 +1,8 @@
+-- `laws::u64_at` meets its contract: two numbers of four bytes are one of eight. Assumes nothing.
 use Rattle.laws.proofs.Numbers.{number-pair}
 use borrow.Author.Needs.{needs}
 use Rattle.laws.proofs.u64_at.Statement.{statement}
 use Rattle.laws.proofs.u64_at.Tie as tie
-use Rattle.laws.proofs.u64_at.Reads as reads
-use Rattle.laws.proofs.u64_at.Lts as lts
-use Rattle.laws.proofs.u32_at.Reads as u32-at-reads
 
 u32-at-requires : tie.Need-u32-at-requires
 u32-at-requires c κs = search needs
