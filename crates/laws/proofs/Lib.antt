@@ -1,3 +1,4 @@
+-- The laws that every layer cites, one subject a file.
 pub mod Lending
 pub mod Every
 pub mod Span
