@@ -1,16 +1,15 @@
 -- One bit of a number, set or cleared. Assumes nothing.
-use Prim.Native.Nat.{ℕ, zero, suc, _+_, _-_, _*_, _^_, _/_, _%_, _≤_, _<_}
-use native.Mathlib.Nat.{mod-lt, one-mul, pow-suc, mul-comm, mul-assoc}
+use Prim.Native.Nat.{ℕ, _+_, _-_, _*_, _^_, _/_, _%_, _≤_, _<_}
+use native.Mathlib.Nat.{mod-lt, one-mul}
 use native.Mathlib.Omega.{arith}
-use mathlib.Core.Path.{_≡_, refl, sym, ap, subst, _∙_}
+use mathlib.Core.Path.{_≡_, ap, _∙_}
 use mathlib.Core.Bool.{Bool, true, false, cond}
 use lib.Dec.{lit<, eqb}
 use borrow.Author.Tests.{eq-eqb}
-use lib.Pow.{pow-pos, pow-add, shl-exact}
+use lib.Pow.{pow-pos, shl-exact}
 use Rattle.laws.specs.Words.{bit}
-use Rattle.access.specs.Fields.{fieldAt, withField}
 use Rattle.access.specs.Exceptions.{withBit}
-use Rattle.access.proofs.Fields.{with-own, field-bound, side-same, side-other}
+use Rattle.access.proofs.Fields.{with-own, side-same, side-other, side-bound}
 
 -- bit k, at its place
 abbrev pub own : ℕ → ℕ → ℕ
@@ -36,12 +35,6 @@ module _ (v k : ℕ) where
 pub one-shifted : (k : ℕ) → k < 32 → 1 * 2 ^ k % 2 ^ 32 ≡ 2 ^ k
 one-shifted k h = shl-exact 1 k 32 (lit< tt) (omega arith) ∙ one-mul (2 ^ k)
 
--- the bits above bit k, of 32
-places : (k : ℕ) → k < 32 → 2 ^ (31 - k) * (2 * 2 ^ k) ≡ 2 ^ 32
-places k h =
-    let e : 31 - k + suc k ≡ 32 = omega arith in
-    ap (λ (n : ℕ). 2 ^ (31 - k) * n) (mul-comm 2 (2 ^ k) ∙ sym (pow-suc 2 k)) ∙ sym (pow-add 2 (31 - k) (suc k)) ∙ ap (λ (n : ℕ). 2 ^ n) e
-
 digit : (b : Bool) → cond b 1 0 < 2
 digit true = lit< tt
 digit false = lit< tt
@@ -49,9 +42,7 @@ digit false = lit< tt
 -- 32 bits stay 32 bits
 pub bit-bound : (v k : ℕ) (b : Bool) → k < 32 → v < 2 ^ 32 → withBit v k b < 2 ^ 32
 unfolding withBit
-bit-bound v k b h l =
-    subst (λ (n : ℕ). withField v (2 ^ k) 2 (cond b 1 0) < n) (places k h)
-    (field-bound v (2 ^ k) 2 (cond b 1 0) (pow-pos k) (digit b) (2 ^ (31 - k)) (rw (places k h) l))
+bit-bound v k b h l = side-bound v 2 (cond b 1 0) (digit b) k 32 h l
 
 -- the bit that was set, and any other
 pub bit-same : (v k : ℕ) (b : Bool) → bit (withBit v k b) k ≡ b

@@ -2,7 +2,7 @@
 use Prim.Native.Nat.{ℕ, suc, _+_, _-_, _*_, _^_, _/_, _%_, _≤_, _<_}
 use native.Mathlib.Nat.{add-assoc, add-mul, mul-assoc, mul-comm, mod-lt, div-add-mod', div-div-eq-div-mul, div-lt-iff-lt-mul, one-le-pow, pow-succ', eq-zero-or-pos}
 use native.Mathlib.Omega.{arith}
-use mathlib.Core.Path.{_≡_, refl, sym, ap, _∙_}
+use mathlib.Core.Path.{_≡_, sym, ap, subst, _∙_}
 use mathlib.Core.Logic.{⊎-elim}
 use lib.Arith.{digits-lt, digits-div, digits-mod, mod-mul}
 use lib.Pow.{pow-add}
@@ -64,26 +64,39 @@ field-below x place width v k u p w n h =
     ∙ ap (λ (n : ℕ). fieldAt n place u) (below (x / (width * (k * (u * place)))) v (x % (k * (u * place))) (mod-lt x q) h) ∙ low-field x k p w n
 
 -- Fields of one width side by side, field i at the place width ^ i: setting one leaves every other.
-module _ (x width v : ℕ) (h : v < width) where
+module _ (width : ℕ) (w : 0 < width) where
   power : (k : ℕ) → 0 < width ^ k
-  power k = one-le-pow k width (omega arith)
+  power k = one-le-pow k width w
+
+  -- a later place is a multiple of the place after this one
+  later : (i j : ℕ) → i < j → width * width ^ i * width ^ (j - suc i) ≡ width ^ j
+  later i j l =
+      let e : suc i + (j - suc i) ≡ j = omega arith in
+      ap (λ (n : ℕ). n * width ^ (j - suc i)) (sym (pow-succ' width i)) ∙ sym (pow-add width (suc i) (j - suc i)) ∙ ap (λ (n : ℕ). width ^ n) e
+
+  earlier : (i j : ℕ) → i < j → width ^ (j - suc i) * (width * width ^ i) ≡ width ^ j
+  earlier i j l = mul-comm (width ^ (j - suc i)) (width * width ^ i) ∙ later i j l
+
+module _ (x width v : ℕ) (h : v < width) where
+  some : 0 < width
+  some = omega arith
 
   pub side-same : (i : ℕ) → fieldAt (withField x (width ^ i) width v) (width ^ i) width ≡ v
-  side-same i = field-same x (width ^ i) width v (power i) h
+  side-same i = field-same x (width ^ i) width v (power width some i) h
 
   pub side-other : (i j : ℕ) → (i ≡ j → ⊥) → fieldAt (withField x (width ^ i) width v) (width ^ j) width ≡ fieldAt x (width ^ j) width
   side-other i j ne = ⊎-elim (λ (e : j - i ≡ 0). down (omega arith)) (λ (l : 0 < j - i). up (omega arith)) (eq-zero-or-pos (j - i))
     where
-      -- place b is a multiple of the place after a
-      past : (a b : ℕ) → a < b → width * width ^ a * width ^ (b - suc a) ≡ width ^ b
-      past a b l =
-          let e : suc a + (b - suc a) ≡ b = omega arith in
-          ap (λ (n : ℕ). n * width ^ (b - suc a)) (sym (pow-succ' width a)) ∙ sym (pow-add width (suc a) (b - suc a)) ∙ ap (λ (n : ℕ). width ^ n) e
-
       up : i < j → fieldAt (withField x (width ^ i) width v) (width ^ j) width ≡ fieldAt x (width ^ j) width
-      up l = rw (← past i j l) (field-above x (width ^ i) width v (power i) h (width ^ (j - suc i)) width)
+      up l = rw (← later width some i j l) (field-above x (width ^ i) width v (power width some i) h (width ^ (j - suc i)) width)
 
       down : j < i → fieldAt (withField x (width ^ i) width v) (width ^ j) width ≡ fieldAt x (width ^ j) width
       down l =
-          rw (← past j i l, mul-comm (width * width ^ j) (width ^ (i - suc j)))
-          (field-below x (width ^ j) width v (width ^ (i - suc j)) width (power j) (omega arith) (power (i - suc j)) h)
+          rw (← earlier width some j i l)
+          (field-below x (width ^ j) width v (width ^ (i - suc j)) width (power width some j) some (power width some (i - suc j)) h)
+
+  -- n fields stay n fields
+  pub side-bound : (i n : ℕ) → i < n → x < width ^ n → withField x (width ^ i) width v < width ^ n
+  side-bound i n l b =
+      subst (λ (m : ℕ). withField x (width ^ i) width v < m) (earlier width some i n l)
+      (field-bound x (width ^ i) width v (power width some i) h (width ^ (n - suc i)) (rw (earlier width some i n l) b))

@@ -1,5 +1,7 @@
 // The behavior digest of an instruction: privilege, flags access, operand accesses and the implicit list, in 32 bits.
 ghost use mathlib.Core.Path.{_≡_};
+ghost use mathlib.Core.Bool.{cond};
+ghost use Prim.Native.Nat.{_<_};
 ghost use Rattle.access.specs.Accesses.{accessNumber};
 ghost use Rattle.access.specs.Privileges.{levelNumber};
 ghost use Rattle.digest.specs.Digests.{emptyDigest, privilegeOf, flagsAccess, accessAt, isNontrivial, isComplex};
@@ -19,6 +21,19 @@ pub struct BehaviorDigest {
 pub struct DigestAnswer {
     pub number: u8,
     pub digest: BehaviorDigest,
+}
+
+// An access and a state as numbers, with the bounds that the sums below rest on.
+fn two_bits(access: Access) -> u8
+    ensures { λ r. ⌜ (r ≡ accessNumber access) × (r < 4) ⌝ }
+{
+    access.to_bits()
+}
+
+fn one_bit(state: bool) -> u8
+    ensures { λ r. ⌜ (r ≡ cond state 1 0) × (r < 2) ⌝ }
+{
+    if state { 1 } else { 0 }
 }
 
 // An operand or a list that there is not.
@@ -42,29 +57,30 @@ impl BehaviorDigest {
         }
     }
 
-    fn set_privilege(mut self, level: PrivilegeLevel) -> BehaviorDigest
-        ensures { λ r. ⌜ r ≡ withPrivilege (levelNumber level) self ⌝ }
+    fn set_privilege(mut self, level: u8) -> BehaviorDigest
+        requires { ⌜ level < 4 ⌝ }
+        ensures { λ r. ⌜ r ≡ withPrivilege level self ⌝ }
     {
-        self.behavior = self.behavior / 4 * 4 + level.to_bits();
+        self.behavior = self.behavior / 4 * 4 + level;
         self
     }
 
     pub fn set_pl0(self) -> BehaviorDigest
         ensures { λ r. ⌜ r ≡ withPrivilege 1 self ⌝ }
     {
-        self.set_privilege(PrivilegeLevel::PL0)
+        self.set_privilege(1)
     }
 
     pub fn set_pl_any(self) -> BehaviorDigest
         ensures { λ r. ⌜ r ≡ withPrivilege 0 self ⌝ }
     {
-        self.set_privilege(PrivilegeLevel::Any)
+        self.set_privilege(0)
     }
 
     pub fn set_pl_special(self) -> BehaviorDigest
         ensures { λ r. ⌜ r ≡ withPrivilege 2 self ⌝ }
     {
-        self.set_privilege(PrivilegeLevel::Special)
+        self.set_privilege(2)
     }
 
     pub fn privilege_level(self) -> PrivilegeLevel
@@ -77,7 +93,7 @@ impl BehaviorDigest {
         ensures { λ r. ⌜ r ≡ withFlags (accessNumber access) self ⌝ }
     {
         let b = self.behavior;
-        self.behavior = b / 16 * 16 + access.to_bits() * 4 + b % 4;
+        self.behavior = b / 16 * 16 + two_bits(access) * 4 + b % 4;
         self
     }
 
@@ -101,7 +117,7 @@ impl BehaviorDigest {
     pub fn set_operand(mut self, operand: u8, access: Access) -> DigestAnswer
         ensures { λ r. ⌜ r ≡ operandAnswer operand (accessNumber access) self ⌝ }
     {
-        let a = access.to_bits();
+        let a = two_bits(access);
         let x = self.operands;
         match operand {
             0 => self.with_operands(x / 4 * 4 + a),
@@ -146,7 +162,7 @@ impl BehaviorDigest {
         ensures { λ r. ⌜ r ≡ withNontrivial state self ⌝ }
     {
         let b = self.behavior;
-        self.behavior = b / 32 * 32 + (state as u8) * 16 + b % 16;
+        self.behavior = b / 32 * 32 + one_bit(state) * 16 + b % 16;
         self
     }
 
@@ -160,7 +176,7 @@ impl BehaviorDigest {
         ensures { λ r. ⌜ r ≡ withComplex state self ⌝ }
     {
         let b = self.behavior;
-        self.behavior = b / 64 * 64 + (state as u8) * 32 + b % 32;
+        self.behavior = b / 64 * 64 + one_bit(state) * 32 + b % 32;
         self
     }
 
