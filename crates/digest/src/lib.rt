@@ -36,6 +36,15 @@ fn one_bit(state: bool) -> u8
     if state { 1 } else { 0 }
 }
 
+fn taken_answer(digest: BehaviorDigest) -> DigestAnswer
+    ensures { λ r. ⌜ r ≡ taken digest ⌝ }
+{
+    DigestAnswer {
+        number: 0,
+        digest: digest,
+    }
+}
+
 // An operand or a list that there is not.
 fn refused_answer() -> DigestAnswer
     ensures { λ r. ⌜ r ≡ refused ⌝ }
@@ -103,16 +112,6 @@ impl BehaviorDigest {
         Access::from_bits(self.behavior / 4)
     }
 
-    fn with_operands(mut self, operands: u8) -> DigestAnswer
-        ensures { λ r. ⌜ r ≡ taken (record { behavior = self .behavior; operands = operands; extra = self .extra }) ⌝ }
-    {
-        self.operands = operands;
-        DigestAnswer {
-            number: 0,
-            digest: self,
-        }
-    }
-
     // An operand above 3 is refused 2.
     pub fn set_operand(mut self, operand: u8, access: Access) -> DigestAnswer
         ensures { λ r. ⌜ r ≡ operandAnswer operand (accessNumber access) self ⌝ }
@@ -120,10 +119,22 @@ impl BehaviorDigest {
         let a = two_bits(access);
         let x = self.operands;
         match operand {
-            0 => self.with_operands(x / 4 * 4 + a),
-            1 => self.with_operands(x / 16 * 16 + a * 4 + x % 4),
-            2 => self.with_operands(x / 64 * 64 + a * 16 + x % 16),
-            3 => self.with_operands(a * 64 + x % 64),
+            0 => {
+                self.operands = x / 4 * 4 + a;
+                taken_answer(self)
+            }
+            1 => {
+                self.operands = x / 16 * 16 + a * 4 + x % 4;
+                taken_answer(self)
+            }
+            2 => {
+                self.operands = x / 64 * 64 + a * 16 + x % 16;
+                taken_answer(self)
+            }
+            3 => {
+                self.operands = a * 64 + x % 64;
+                taken_answer(self)
+            }
             _ => refused_answer(),
         }
     }
@@ -146,10 +157,7 @@ impl BehaviorDigest {
             return refused_answer();
         }
         self.extra = list;
-        DigestAnswer {
-            number: 0,
-            digest: self,
-        }
+        taken_answer(self)
     }
 
     pub fn implicit_list(self) -> u16
