@@ -13,7 +13,7 @@ use Rattle.implicit.specs.declared.Way.the-variants.{Load, Store}
 use Rattle.implicit.specs.declared.ImplicitOperand.the-variants.{Register, MemDeref, Disp, MemBaseIndexScale}
 use Rattle.implicit.specs.declared.Entry.{Entry}
 use Rattle.implicit.specs.declared.Entry.the-variants.{Operand, Slot, End}
-use Rattle.implicit.specs.Codes.{entryOf, codeIn}
+use Rattle.implicit.specs.Codes.{entryOf, codeIn, rows, rowOf}
 use Rattle.implicit.specs.Lists.{implicits, implicitOf, entryAt}
 use Rattle.implicit.specs.Memory.{memoryEntry}
 
@@ -28,44 +28,21 @@ module _ {A : Type 0} where
   firsts-at (suc n) f d zero h = refl
   firsts-at (suc n) f d (suc k) h = firsts-at n (λ k. f (suc k)) d k (le-of-suc-le-suc h)
 
--- the code of an entry
-abbrev byWay : Way → ℕ
-byWay Load = 0
-byWay Store = 1
-
-abbrev code : ℕ → RegSpec → ℕ
-code form x = 256 * form + 16 * x .bank + x .number
-
-abbrev pub codeOf : Entry → ℕ
-codeOf (Operand (Register x) way) = code (1 + byWay way) x
-codeOf (Operand (MemDeref x) way) = code (3 + byWay way) x
-codeOf (Operand (Disp x d) way) = code 5 x
-codeOf (Operand (MemBaseIndexScale x y s) way) = code 6 x
-codeOf (Slot n way) = 256 * (7 + byWay way) + n
-codeOf End = 0
-
 -- the four places of a list, `End` where it has fewer, as a row, and what a row holds
 abbrev filled : List Entry → List Entry
 filled es = firsts 4 (λ i. getD es i End)
 
-abbrev pub joined : List Entry → ℕ
-joined [] = 0
-joined (e ∷ es) = codeOf e + 65536 * joined es
-
 abbrev held : ℕ → List Entry
 held row = firsts 4 (λ i. entryOf (codeIn row i))
-
-abbrev pub rows : List ℕ
-rows = map joined implicits
 
 rows-hold : map held rows ≡ map filled implicits
 unfolding entryOf codeIn
 rows-hold = refl
 
-pub rows-right : (l i : ℕ) → i < 4 → entryOf (codeIn (getD rows l 0) i) ≡ entryAt l i
+pub rows-right : (l i : ℕ) → i < 4 → entryOf (codeIn (rowOf l) i) ≡ entryAt l i
 unfolding entryOf codeIn implicitOf entryAt
 rows-right l i h =
-    sym (firsts-at 4 (λ i. entryOf (codeIn (getD rows l 0) i)) End i h)
+    sym (firsts-at 4 (λ i. entryOf (codeIn (rowOf l) i)) End i h)
     ∙ ap (λ (es : List Entry). getD es i End) (sym (List·getD-map held rows l 0) ∙ ap (λ (ls : List (List Entry)). getD ls l (held 0)) rows-hold ∙ List·getD-map filled implicits l [])
     ∙ firsts-at 4 (λ i. getD (implicitOf l) i End) End i h
 

@@ -3,7 +3,7 @@ use registers::RegSpec;
 ghost use mathlib.Core.Path.{_≡_};
 ghost use Prim.Native.Nat.{_<_};
 ghost use Rattle.laws.specs.Tests.{any};
-ghost use Rattle.implicit.specs.Codes.{entryOf};
+ghost use Rattle.implicit.specs.Codes.{entryOf, rowOf};
 ghost use Rattle.implicit.specs.Lists.{implicitOf, entryAt};
 ghost use Rattle.implicit.specs.Memory.{memoryOperand, memoryEntry};
 
@@ -30,50 +30,55 @@ pub enum Entry {
 
 const MINUS_8: u32 = 0xFFFF_FFF8;
 
-// A row for each list: four codes of four hexadecimal digits, the first entry's code last, 0 past the last entry.
-const ROWS: [u64; 29] = [
-    0x0000_0000_0000_0000,
-    // MUL
-    0x0000_0000_0220_0140,
-    0x0000_0222_0220_0120,
-    0x0000_0202_0200_0110,
-    0x0000_0202_0200_0100,
-    // DIV
-    0x0000_0000_0220_0120,
-    0x0222_0220_0122_0120,
-    0x0202_0200_0112_0110,
-    0x0202_0200_0102_0100,
-    // CMPXCHG
-    0x0000_0000_0240_0140,
-    0x0000_0000_0220_0120,
-    0x0000_0000_0200_0110,
-    0x0000_0000_0200_0100,
-    // MULX
-    0x0000_0000_0000_0112,
-    0x0000_0000_0000_0102,
-    // VMASKMOVDQU
-    0x0000_0000_0000_0417,
-    0x0000_0000_0000_0407,
-    // PCMPESTRI, PCMPESTRM
-    0x0000_0201_0112_0110,
-    0x0000_0201_0102_0100,
-    0x0000_0250_0112_0110,
-    0x0000_0250_0102_0100,
-    // LOOP
-    0x0000_0000_0201_0101,
-    0x0000_0000_0221_0121,
-    0x0000_0000_0201_0111,
-    // String
-    0x0000_0000_0800_0700,
-    0x0801_0701_0800_0700,
-    // Push, pop, XLAT
-    0x0000_0504_0204_0104,
-    0x0000_0304_0204_0104,
-    0x0000_0000_0000_0603,
-];
-
 // A bit for each list that has a memory form: 15, 16 and 24 to 28.
 const MEMORY_LISTS: u32 = 0x1F01_8000;
+
+// A list as four codes of four hexadecimal digits, its first entry's the lowest, 0 past its last. The compiler makes one table of
+// constants of this match; an array it would lay out anew at each call.
+fn row_of(list: u16) -> u64
+    ensures { λ r. ⌜ r ≡ rowOf list ⌝ }
+{
+    match list {
+        // MUL
+        1 => 0x0000_0000_0220_0140,
+        2 => 0x0000_0222_0220_0120,
+        3 => 0x0000_0202_0200_0110,
+        4 => 0x0000_0202_0200_0100,
+        // DIV
+        5 => 0x0000_0000_0220_0120,
+        6 => 0x0222_0220_0122_0120,
+        7 => 0x0202_0200_0112_0110,
+        8 => 0x0202_0200_0102_0100,
+        // CMPXCHG
+        9 => 0x0000_0000_0240_0140,
+        10 => 0x0000_0000_0220_0120,
+        11 => 0x0000_0000_0200_0110,
+        12 => 0x0000_0000_0200_0100,
+        // MULX
+        13 => 0x0000_0000_0000_0112,
+        14 => 0x0000_0000_0000_0102,
+        // VMASKMOVDQU
+        15 => 0x0000_0000_0000_0417,
+        16 => 0x0000_0000_0000_0407,
+        // PCMPESTRI, PCMPESTRM
+        17 => 0x0000_0201_0112_0110,
+        18 => 0x0000_0201_0102_0100,
+        19 => 0x0000_0250_0112_0110,
+        20 => 0x0000_0250_0102_0100,
+        // LOOP
+        21 => 0x0000_0000_0201_0101,
+        22 => 0x0000_0000_0221_0121,
+        23 => 0x0000_0000_0201_0111,
+        // String
+        24 => 0x0000_0000_0800_0700,
+        25 => 0x0801_0701_0800_0700,
+        // Push, pop, XLAT
+        26 => 0x0000_0504_0204_0104,
+        27 => 0x0000_0304_0204_0104,
+        28 => 0x0000_0000_0000_0603,
+        _ => 0,
+    }
+}
 
 // The hexadecimal digits of a code are 0, a form, a bank and a number.
 fn entry_of(code: u16) -> Entry
@@ -102,14 +107,11 @@ fn entry_of(code: u16) -> Entry
 pub fn implicit_entry(list: u16, i: u8) -> Entry
     ensures { λ r. ⌜ r ≡ entryAt list i ⌝ }
 {
-    if list > 28 {
-        return Entry::End;
-    }
     if i > 3 {
         return Entry::End;
     }
-    let row = ROWS[list as usize] >> (16 * i);
-    entry_of((row % 65536) as u16)
+    let rest = row_of(list) >> (16 * i);
+    entry_of((rest % 65536) as u16)
 }
 
 fn is_memory_operand(o: ImplicitOperand) -> bool

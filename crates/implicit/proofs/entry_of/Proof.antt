@@ -1,8 +1,8 @@
 use Rattle.implicit.specs.Codes.{entryOf, forms, registerIn}
-use mathlib.Core.Path.{refl, sym}
-use mathlib.Core.Logic.{inl, inr}
+use mathlib.Core.Path.{sym}
 use Prim.Native.Nat.{_/_}
-use Rattle.laws.proofs.Span.{others}
+use lib.ListN.{drop}
+use Rattle.implicit.proofs.Keys.{otherwise}
 use Rattle.implicit.specs.declared.Entry.the-variants.{End}
 use borrow.Author.Needs.{needs}
 use Rattle.implicit.proofs.entry_of.Statement.{statement}
@@ -50,11 +50,7 @@ returns-8 c = rw (c .match .keys8)
 
 returns-9 : tie.Need-returns-9
 unfolding entryOf
-returns-9 c =
-    let no = c .match .rest in
-    sym
-    (others (forms (registerIn (c .before .args .code))) End (c .before .args .code / 256)
-    (inr refl, (inl (no .0 .0 .0 .0 .0 .0 .0 .1), (inl (no .0 .0 .0 .0 .0 .0 .1), (inl (no .0 .0 .0 .0 .0 .1), (inl (no .0 .0 .0 .0 .1), (inl (no .0 .0 .0 .1), (inl (no .0 .0 .1), (inl (no .0 .1), (inl (no .1), tt))))))))))
+returns-9 c = sym (otherwise End (drop 1 (forms (registerIn (c .before .args .code)))) (c .before .args .code / 256) (c .match .rest))
 
 pub entry-of-spec : {M : Type 1} → statement M
 entry-of-spec =
