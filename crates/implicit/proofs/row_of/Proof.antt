@@ -1,6 +1,5 @@
 -- The arms are the rows of the table. Assumes nothing.
 use mathlib.Core.Path.{sym}
-use mathlib.Core.List.{map}
 use lib.ListN.{drop}
 use Rattle.implicit.specs.Codes.{rows}
 use Rattle.implicit.proofs.Keys.{otherwise}
