@@ -5,7 +5,7 @@ use lib.ListN.{drop}
 use borrow.Author.Needs.{needs}
 use Rattle.implicit.specs.declared.Entry.the-variants.{End}
 use Rattle.implicit.specs.Codes.{entryOf, forms, registerIn}
-use Rattle.implicit.proofs.Keys.{otherwise}
+use Rattle.laws.proofs.Keys.{otherwise}
 use Rattle.implicit.proofs.entry_of.Statement.{statement}
 use Rattle.implicit.proofs.entry_of.Tie as tie
 

@@ -2,7 +2,7 @@
 use mathlib.Core.Path.{sym}
 use lib.ListN.{drop}
 use Rattle.implicit.specs.Codes.{rows}
-use Rattle.implicit.proofs.Keys.{otherwise}
+use Rattle.laws.proofs.Keys.{otherwise}
 use Rattle.implicit.proofs.row_of.Statement.{statement}
 use Rattle.implicit.proofs.row_of.Tie as tie
 
