@@ -5,7 +5,7 @@ ghost use Prim.Native.Nat.{_<_};
 ghost use Rattle.access.specs.Accesses.{accessNumber};
 ghost use Rattle.access.specs.Privileges.{levelNumber};
 ghost use Rattle.digest.specs.Digests.{emptyDigest, privilegeOf, flagsAccess, accessAt, isNontrivial, isComplex};
-ghost use Rattle.digest.specs.Digests.{withPrivilege, withFlags, withNontrivial, withComplex, withAccess, withList};
+ghost use Rattle.digest.specs.Digests.{withPrivilege, withFlags, withNontrivial, withComplex};
 ghost use Rattle.digest.specs.Digests.{taken, refused, operandAnswer, listAnswer};
 use access::Access;
 use access::PrivilegeLevel;
