@@ -28,9 +28,12 @@ isFile b = eqb (length b) 141 && eqb (getD b 0 0) 0x20 && ltb (numberAt b 1 4) (
 unfoldable pub noFile : RegisterFile
 noFile = record { values = replicate 17 0; known = 0 }
 
+abbrev pub refusedFile : FileAnswer
+refusedFile = record { number = 3; file = noFile }
+
 -- the file, or refusal 3
 unfoldable pub fileAnswer : List ℕ → FileAnswer
-fileAnswer b = cond (isFile b) (record { number = 0; file = fileOf b }) (record { number = 3; file = noFile })
+fileAnswer b = cond (isFile b) (record { number = 0; file = fileOf b }) refusedFile
 
 -- the part of a full register that a register is: the slot of the file that it lies in, the bits below it, and its own bits
 pub record Part : Type 0 where
