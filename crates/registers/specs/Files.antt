@@ -56,7 +56,7 @@ bankParts n =
     ∷ part n 0 32
     ∷ part n 0 16
     ∷ part n 0 8
-    ∷ cond (ltb n 4) (part n 0 8) (part (n - 4) 8 8)
+    ∷ part (cond (ltb n 4) n (n - 4)) (cond (ltb n 4) 0 8) 8
     ∷ nowhere ∷ nowhere ∷ nowhere ∷ nowhere
     ∷ part 16 0 64
     ∷ part 16 0 32

@@ -1,7 +1,7 @@
 // Registers by bank and number, and the register file that says what is known of them.
 ghost use mathlib.Core.Path.{_≡_};
 ghost use mathlib.Core.Bool.{cond};
-ghost use Prim.Native.Nat.{_+_, _≤_, _<_, _/_, _%_, _^_};
+ghost use Prim.Native.Nat.{_<_, _/_, _%_, _^_};
 ghost use lib.ListN.{length};
 ghost use lib.Dec.{ltb};
 ghost use Rattle.registers.specs.Banks.{isRegister, isLogged, widthOf, reg};

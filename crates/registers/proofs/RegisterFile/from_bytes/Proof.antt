@@ -3,11 +3,6 @@ use borrow.Author.Tests.{lt-ltb, le-ltb, eq-eqb, ne-eqb}
 use borrow.Author.Needs.{needs}
 use Rattle.registers.proofs.RegisterFile.from_bytes.Statement.{statement}
 use Rattle.registers.proofs.RegisterFile.from_bytes.Tie as tie
-use Rattle.registers.proofs.RegisterFile.from_bytes.Reads as reads
-use Rattle.registers.proofs.RegisterFile.from_bytes.Lts as lts
-use Rattle.laws.proofs.u32_at.Reads as u32-at-reads
-use Rattle.registers.proofs.RegisterFile.parse.Reads as parse-reads
-use Rattle.registers.proofs.RegisterFile.refused.Reads as refused-reads
 
 refused-requires : tie.Need-refused-requires
 refused-requires c κs = search needs

@@ -2,10 +2,6 @@ use Rattle.registers.specs.Files.{fileOf, numbersFrom}
 use borrow.Author.Needs.{needs}
 use Rattle.registers.proofs.RegisterFile.parse.Statement.{statement}
 use Rattle.registers.proofs.RegisterFile.parse.Tie as tie
-use Rattle.registers.proofs.RegisterFile.parse.Reads as reads
-use Rattle.registers.proofs.RegisterFile.parse.Lts as lts
-use Rattle.laws.proofs.u32_at.Reads as u32-at-reads
-use Rattle.laws.proofs.u64_at.Reads as u64-at-reads
 
 u32-at-requires : tie.Need-u32-at-requires
 u32-at-requires c κs = search needs

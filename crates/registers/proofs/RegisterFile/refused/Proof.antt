@@ -2,8 +2,6 @@ use Rattle.registers.specs.Files.{noFile}
 use mathlib.Core.Path.{refl}
 use Rattle.registers.proofs.RegisterFile.refused.Statement.{statement}
 use Rattle.registers.proofs.RegisterFile.refused.Tie as tie
-use Rattle.registers.proofs.RegisterFile.refused.Reads as reads
-use Rattle.registers.proofs.RegisterFile.refused.Lts as lts
 
 returns : tie.Need-returns
 unfolding noFile
