@@ -2,12 +2,14 @@
 mod operands;
 mod places;
 mod shapes;
+mod terms;
 mod words;
 
 pub use operands::apply_x86_zext;
 pub use operands::fourth_of;
 pub use operands::mask_for;
 pub use operands::operand_address;
+pub use operands::register_at;
 pub use operands::slot_register;
 pub use places::compute_addr;
 pub use shapes::shape_of;

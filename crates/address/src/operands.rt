@@ -1,4 +1,8 @@
 // The address and the registers that a record's operands name.
+use crate::shapes::EDI;
+use crate::shapes::ESI;
+use crate::shapes::RDI;
+use crate::shapes::RSI;
 use crate::words::sign_extended;
 use definition::Address;
 use definition::Base;
@@ -8,6 +12,8 @@ use record::Record;
 use registers::RegSpec;
 ghost use mathlib.Core.Path.{_≡_};
 ghost use lib.ListN.{getD};
+ghost use Rattle.registers.specs.Banks.{reg};
+ghost use Rattle.record.specs.Records.{regAt};
 ghost use Rattle.definition.specs.Addresses.{baseOf, indexOf, offsetOf, operandAddress};
 ghost use Rattle.definition.specs.Steps.{widened, fourthOf, maskFor};
 ghost use Rattle.address.specs.Slots.{slotTerm, specTerm};
@@ -74,11 +80,30 @@ fn spec_register(x: Record, spec: u8) -> Term
 {
     match spec {
         18 => Term::Plain(x.regs[1]),
-        20 => Term::Plain(RegSpec { bank: 0, number: 7 }),
-        21 => Term::Plain(RegSpec { bank: 0, number: 6 }),
-        22 => Term::Plain(RegSpec { bank: 1, number: 7 }),
-        23 => Term::Plain(RegSpec { bank: 1, number: 6 }),
+        20 => Term::Plain(RDI),
+        21 => Term::Plain(RSI),
+        22 => Term::Plain(EDI),
+        23 => Term::Plain(ESI),
         _ => Term::Absent,
+    }
+}
+
+// A register of the record, by its place.
+pub fn register_at(x: Record, place: u8) -> RegSpec
+    ensures { λ r. ⌜ r ≡ regAt x place ⌝ }
+{
+    let regs = x.regs;
+    reg_at(regs, place)
+}
+
+fn reg_at(regs: [RegSpec; 4], place: u8) -> RegSpec
+    ensures { λ r. ⌜ r ≡ getD regs place (reg 0 0) ⌝ }
+{
+    let i = place as usize;
+    if i < 4 {
+        regs[i]
+    } else {
+        RegSpec { bank: 0, number: 0 }
     }
 }
 

@@ -1,8 +1,8 @@
 use mathlib.Core.Path.{ap}
 use Rattle.registers.specs.declared.Value.the-variants.{Known}
 use borrow.Author.Needs.{needs}
-use Rattle.address.proofs.places.scaled.Statement.{statement}
-use Rattle.address.proofs.places.scaled.Tie as tie
+use Rattle.address.proofs.terms.scaled.Statement.{statement}
+use Rattle.address.proofs.terms.scaled.Tie as tie
 
 enum-known-v : tie.Need-enum-known-v
 enum-known-v c = search needs

@@ -1,7 +1,7 @@
 use Rattle.definition.specs.Addresses.{termOf}
 use borrow.Author.Needs.{needs}
-use Rattle.address.proofs.places.term_value.Statement.{statement}
-use Rattle.address.proofs.places.term_value.Tie as tie
+use Rattle.address.proofs.terms.term_value.Statement.{statement}
+use Rattle.address.proofs.terms.term_value.Tie as tie
 
 enum-told : tie.Need-enum-told
 enum-told c = search needs
