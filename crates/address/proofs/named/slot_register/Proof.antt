@@ -1,7 +1,7 @@
 use Rattle.address.specs.Slots.{slotTerm}
 use borrow.Author.Needs.{needs}
-use Rattle.address.proofs.operands.slot_register.Statement.{statement}
-use Rattle.address.proofs.operands.slot_register.Tie as tie
+use Rattle.address.proofs.named.slot_register.Statement.{statement}
+use Rattle.address.proofs.named.slot_register.Tie as tie
 
 spec-at-requires : tie.Need-spec-at-requires
 spec-at-requires c κs = search needs

@@ -5,8 +5,8 @@ use Rattle.definition.specs.Addresses.{baseOf}
 use Rattle.definition.specs.Steps.{shapeBase}
 use Rattle.address.specs.Slots.{specTerm}
 use borrow.Author.Needs.{needs}
-use Rattle.address.proofs.operands.spec_register.Statement.{statement}
-use Rattle.address.proofs.operands.spec_register.Tie as tie
+use Rattle.address.proofs.named.spec_register.Statement.{statement}
+use Rattle.address.proofs.named.spec_register.Tie as tie
 
 element-copy-out-t7 : tie.Need-element-copy-out-t7
 element-copy-out-t7 c = search needs

@@ -3,8 +3,8 @@ use native.Mathlib.Omega.{arith}
 use lib.ListN.{List·getD-eq-default}
 use Rattle.registers.specs.Banks.{reg}
 use borrow.Author.Needs.{needs}
-use Rattle.address.proofs.operands.reg_at.Statement.{statement}
-use Rattle.address.proofs.operands.reg_at.Tie as tie
+use Rattle.address.proofs.named.reg_at.Statement.{statement}
+use Rattle.address.proofs.named.reg_at.Tie as tie
 
 mul-result : tie.Need-mul-result
 mul-result c = search needs

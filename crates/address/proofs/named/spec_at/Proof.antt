@@ -2,8 +2,8 @@ use mathlib.Core.Path.{sym}
 use native.Mathlib.Omega.{arith}
 use lib.ListN.{List·getD-eq-default}
 use borrow.Author.Needs.{needs}
-use Rattle.address.proofs.operands.spec_at.Statement.{statement}
-use Rattle.address.proofs.operands.spec_at.Tie as tie
+use Rattle.address.proofs.named.spec_at.Statement.{statement}
+use Rattle.address.proofs.named.spec_at.Tie as tie
 
 array-read-result : tie.Need-array-read-result
 array-read-result c = search needs
