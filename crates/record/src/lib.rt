@@ -2,8 +2,7 @@
 use digest::BehaviorDigest;
 use registers::RegSpec;
 ghost use mathlib.Core.Path.{_≡_};
-ghost use mathlib.Core.Bool.{Bool, _||_, not};
-ghost use mathlib.Core.List.{[], _∷_};
+ghost use mathlib.Core.Bool.{not};
 ghost use Prim.Native.Nat.{_+_, _≤_, _<_};
 ghost use lib.ListN.{length};
 ghost use lib.Dec.{ltb};

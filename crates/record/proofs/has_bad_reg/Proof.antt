@@ -5,9 +5,6 @@ use Rattle.record.proofs.Laws.{some-of-four}
 use borrow.Author.Needs.{needs}
 use Rattle.record.proofs.has_bad_reg.Statement.{statement}
 use Rattle.record.proofs.has_bad_reg.Tie as tie
-use Rattle.record.proofs.has_bad_reg.Reads as reads
-use Rattle.record.proofs.has_bad_reg.Lts as lts
-use Rattle.record.proofs.is_bad.Reads as is-bad-reads
 
 shared-slice-read-is-bad : tie.Need-shared-slice-read-is-bad
 shared-slice-read-is-bad c = search needs

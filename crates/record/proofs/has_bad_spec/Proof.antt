@@ -4,8 +4,6 @@ use mathlib.Core.Bool.{or-assoc, or-false}
 use borrow.Author.Needs.{needs}
 use Rattle.record.proofs.has_bad_spec.Statement.{statement}
 use Rattle.record.proofs.has_bad_spec.Tie as tie
-use Rattle.record.proofs.has_bad_spec.Reads as reads
-use Rattle.record.proofs.has_bad_spec.Lts as lts
 
 shared-slice-read-result : tie.Need-shared-slice-read-result
 shared-slice-read-result c = search needs

@@ -3,8 +3,6 @@ use mathlib.Core.Path.{refl}
 use borrow.Author.Needs.{needs}
 use Rattle.record.proofs.has_bit.Statement.{statement}
 use Rattle.record.proofs.has_bit.Tie as tie
-use Rattle.record.proofs.has_bit.Reads as reads
-use Rattle.record.proofs.has_bit.Lts as lts
 
 shr-result : tie.Need-shr-result
 shr-result c = search needs

@@ -4,11 +4,6 @@ use mathlib.Core.Bool.{or-assoc, or-false}
 use borrow.Author.Needs.{needs}
 use Rattle.record.proofs.is_outside.Statement.{statement}
 use Rattle.record.proofs.is_outside.Tie as tie
-use Rattle.record.proofs.is_outside.Reads as reads
-use Rattle.record.proofs.is_outside.Lts as lts
-use Rattle.laws.proofs.u16_at.Reads as u16-at-reads
-use Rattle.record.proofs.has_bad_reg.Reads as has-bad-reg-reads
-use Rattle.record.proofs.has_bad_spec.Reads as has-bad-spec-reads
 
 shared-slice-read-result : tie.Need-shared-slice-read-result
 shared-slice-read-result c = search needs

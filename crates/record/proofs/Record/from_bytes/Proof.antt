@@ -5,11 +5,6 @@ use mathlib.Core.Path.{sym, _∙_}
 use borrow.Author.Needs.{needs}
 use Rattle.record.proofs.Record.from_bytes.Statement.{statement}
 use Rattle.record.proofs.Record.from_bytes.Tie as tie
-use Rattle.record.proofs.Record.from_bytes.Reads as reads
-use Rattle.record.proofs.Record.from_bytes.Lts as lts
-use Rattle.record.proofs.Record.parse.Reads as parse-reads
-use Rattle.record.proofs.Record.refused.Reads as refused-reads
-use Rattle.record.proofs.is_outside.Reads as is-outside-reads
 
 refused-requires : tie.Need-refused-requires
 refused-requires c κs = search needs

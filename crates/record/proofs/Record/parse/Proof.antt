@@ -2,11 +2,6 @@ use Rattle.record.specs.Records.{recordOf}
 use borrow.Author.Needs.{needs}
 use Rattle.record.proofs.Record.parse.Statement.{statement}
 use Rattle.record.proofs.Record.parse.Tie as tie
-use Rattle.record.proofs.Record.parse.Reads as reads
-use Rattle.record.proofs.Record.parse.Lts as lts
-use Rattle.laws.proofs.u16_at.Reads as u16-at-reads
-use Rattle.laws.proofs.u64_at.Reads as u64-at-reads
-use Rattle.record.proofs.reg_from.Reads as reg-from-reads
 
 shared-slice-read-t6 : tie.Need-shared-slice-read-t6
 shared-slice-read-t6 c = search needs

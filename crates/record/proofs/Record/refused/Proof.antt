@@ -2,8 +2,6 @@ use Rattle.record.specs.Records.{noRecord}
 use mathlib.Core.Path.{refl}
 use Rattle.record.proofs.Record.refused.Statement.{statement}
 use Rattle.record.proofs.Record.refused.Tie as tie
-use Rattle.record.proofs.Record.refused.Reads as reads
-use Rattle.record.proofs.Record.refused.Lts as lts
 
 returns : tie.Need-returns
 unfolding noRecord

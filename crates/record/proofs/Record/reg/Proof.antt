@@ -5,22 +5,16 @@ use Rattle.registers.specs.Banks.{reg}
 use borrow.Author.Needs.{needs}
 use Rattle.record.proofs.Record.reg.Statement.{statement}
 use Rattle.record.proofs.Record.reg.Tie as tie
-use Rattle.record.proofs.Record.reg.Reads as reads
-use Rattle.record.proofs.Record.reg.Lts as lts
 
--- src/lib.rt:170:13
 mul-result : tie.Need-mul-result
 mul-result c = search needs
 
--- src/lib.rt:170:13
 element-copy-out-result : tie.Need-element-copy-out-result
 element-copy-out-result c = search needs
 
--- src/lib.rt:165:5
 returns : tie.Need-returns
 returns c = search needs
 
--- src/lib.rt:165:5
 returns-2 : tie.Need-returns-2
 returns-2 c =
     let regs = c .before .args .t1 .regs in

@@ -4,18 +4,13 @@ use lib.ListN.{length, length-map, List·getD-eq-default}
 use borrow.Author.Needs.{needs}
 use Rattle.record.proofs.Record.spec.Statement.{statement}
 use Rattle.record.proofs.Record.spec.Tie as tie
-use Rattle.record.proofs.Record.spec.Reads as reads
-use Rattle.record.proofs.Record.spec.Lts as lts
 
--- src/lib.rt:162:20
 element-copy-out-result : tie.Need-element-copy-out-result
 element-copy-out-result c = search needs
 
--- src/lib.rt:158:5
 returns : tie.Need-returns
 returns c = search needs
 
--- src/lib.rt:158:5
 returns-2 : tie.Need-returns-2
 returns-2 c =
     let specs = c .before .args .t1 .specs in
