@@ -3,14 +3,16 @@ use access::Access;
 use digest::BehaviorDigest;
 use record::Record;
 ghost use mathlib.Core.Path.{_≡_};
+ghost use mathlib.Core.Bool.{cond};
 ghost use Prim.Native.Nat.{_≤_};
 ghost use Rattle.access.specs.Accesses.{accessNumber};
 ghost use Rattle.digest.specs.Digests.{withAccess, withList};
 ghost use Rattle.definition.specs.Tables.{ruleOf, mul, imul, div, nop, cmpxchg, movhalf, extrq, insertq, return};
+ghost use Rattle.definition.specs.Tables.{mulx, maskmov, pcmpestri, pcmpestrm, loop};
 ghost use Rattle.definition.specs.Behaviors.{operandWidth, byWidth, fixUp};
 
 // The spec `RegMMM`, whose register is `regs[1]`.
-const REG_MMM: u8 = 2;
+pub const REG_MMM: u8 = 2;
 
 // The first of four lists, for the widths 1, 2, 4 and 8.
 const MUL_LISTS: u16 = 1;
@@ -25,6 +27,13 @@ fn with_list(d: BehaviorDigest, list: u16) -> BehaviorDigest
     ensures { λ r. ⌜ r ≡ withList list d ⌝ }
 {
     d.set_implicit_ops(list).digest
+}
+
+fn one_list_of(d: BehaviorDigest, test: bool, yes: u16, no: u16) -> BehaviorDigest
+    requires { ⌜ (yes ≤ 28) × (no ≤ 28) ⌝ }
+    ensures { λ r. ⌜ r ≡ withList (cond test yes no) d ⌝ }
+{
+    if test { with_list(d, yes) } else { with_list(d, no) }
 }
 
 fn with_access(d: BehaviorDigest, operand: u8, access: Access) -> BehaviorDigest
@@ -149,5 +158,68 @@ fn fix_return(x: Record) -> BehaviorDigest
         d
     } else {
         with_access(d, 0, Access::Read)
+    }
+}
+
+fn fix_mulx(x: Record) -> BehaviorDigest
+    ensures { λ r. ⌜ r ≡ fixUp mulx x (x .digest) ⌝ }
+{
+    one_list_of(x.digest, x.vex_w(), 14, 13)
+}
+
+fn fix_maskmov(x: Record) -> BehaviorDigest
+    ensures { λ r. ⌜ r ≡ fixUp maskmov x (x .digest) ⌝ }
+{
+    one_list_of(x.digest, x.address_size(), 15, 16)
+}
+
+fn fix_pcmpestri(x: Record) -> BehaviorDigest
+    ensures { λ r. ⌜ r ≡ fixUp pcmpestri x (x .digest) ⌝ }
+{
+    one_list_of(x.digest, x.vex_w(), 18, 17)
+}
+
+fn fix_pcmpestrm(x: Record) -> BehaviorDigest
+    ensures { λ r. ⌜ r ≡ fixUp pcmpestrm x (x .digest) ⌝ }
+{
+    one_list_of(x.digest, x.vex_w(), 20, 19)
+}
+
+fn fix_loop(x: Record) -> BehaviorDigest
+    ensures { λ r. ⌜ r ≡ fixUp loop x (x .digest) ⌝ }
+{
+    if x.rex_w() {
+        with_list(x.digest, 21)
+    } else {
+        one_list_of(x.digest, x.operand_size(), 22, 23)
+    }
+}
+
+// The rule of the opcode, on the base digest.
+pub fn fix_up(x: Record) -> BehaviorDigest
+    ensures { λ r. ⌜ r ≡ fixUp (ruleOf (x .opcode)) x (x .digest) ⌝ }
+{
+    let opcode = x.opcode;
+    match opcode {
+        // MUL, IMUL, DIV and IDIV, NOP, CMPXCHG
+        1 => fix_mul(x),
+        2 => fix_imul(x),
+        3 | 4 => fix_div(x),
+        5 => fix_nop(x),
+        6 => fix_cmpxchg(x),
+        // VMOVLPS, VMOVHPS, VMOVLPD, VMOVHPD
+        7..=10 => fix_movhalf(x),
+        // EXTRQ, INSERTQ, RETURN and RETF, MULX, VMASKMOVDQU
+        11 => fix_extrq(x),
+        12 => fix_insertq(x),
+        13 | 14 => fix_return(x),
+        15 => fix_mulx(x),
+        16 => fix_maskmov(x),
+        // PCMPESTRI and PCMPESTRM, each with its VEX form
+        17 | 18 => fix_pcmpestri(x),
+        19 | 20 => fix_pcmpestrm(x),
+        // LOOPNZ, LOOPZ, LOOP
+        21..=23 => fix_loop(x),
+        _ => x.digest,
     }
 }
