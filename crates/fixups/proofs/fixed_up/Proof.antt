@@ -1,3 +1,4 @@
+use Rattle.definition.specs.Behaviors.{fixedUp}
 use borrow.Author.Needs.{needs}
 use Rattle.fixups.proofs.fixed_up.Statement.{statement}
 use Rattle.fixups.proofs.fixed_up.Tie as tie
@@ -9,7 +10,8 @@ digest-of-requires : tie.Need-digest-of-requires
 digest-of-requires c κs = search needs
 
 returns : tie.Need-returns
-returns c = ?
+unfolding fixedUp
+returns c = rw (c .digest-of .ensures)
 
 pub fixed-up-spec : {M : Type 1} → statement M
 fixed-up-spec = tie.close (tie.spec digest-of-requires returns)
