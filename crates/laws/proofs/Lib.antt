@@ -3,3 +3,4 @@ pub mod Every
 pub mod Span
 pub mod Choice
 pub mod Numbers
+pub mod Bits
