@@ -1,14 +1,15 @@
 -- What two calls have in common, and what a call keeps.
-use Prim.Native.Nat.{ℕ, _+_}
+use Prim.Native.Nat.{ℕ, _^_, _<_}
 use mathlib.Core.Path.{_≡_}
 use mathlib.Core.List.{List, [], _∷_}
-use lib.ListN.{length, take, drop}
+use lib.ListN.{length}
 use Rattle.laws.specs.Lending.{splice}
 use Rattle.definition.specs.Logs.{bytesOf}
 use Rattle.definition.specs.Readings.{readAt}
 use Rattle.definition.specs.declared.Answer.{Answer}
 use Rattle.definition.specs.declared.Answer.the-variants.{Done, Refused, Complex}
 use Rattle.definition.specs.declared.Event.{Event}
+use Rattle.definition.specs.declared.Event.the-variants.{RegisterRead, RegisterWrite, MemoryRead, MemoryWrite, UnknownRead, UnknownWrite}
 use Rattle.definition.specs.declared.Reading.the-variants.{Found}
 use Rattle.promises.specs.Refinement.{RefinesAll}
 
@@ -31,3 +32,12 @@ pub data Alike (one two : Answer × List ℕ) (p q : List ℕ) (s t : ℕ) (ds e
 pub data ReadsFrom (l : List ℕ) : ℕ → List Event → ℕ → Type 0 where
   stop : {at : ℕ} → ReadsFrom l at [] at
   step : {at next end : ℕ} {e : Event} {es : List Event} → readAt l at ≡ Found e next → ReadsFrom l next es end → ReadsFrom l at (e ∷ es) end
+
+-- an event whose address, where it has one, is a number of 8 bytes
+abbrev pub Addressable : Event → Type 0
+Addressable (RegisterRead y) = Unit {0}
+Addressable (RegisterWrite y) = Unit {0}
+Addressable (MemoryRead a n) = a < 2 ^ 64
+Addressable (MemoryWrite a n) = a < 2 ^ 64
+Addressable (UnknownRead n) = Unit {0}
+Addressable (UnknownWrite n) = Unit {0}

@@ -1,2 +1,4 @@
 pub mod Refinement
 pub mod Calls
+pub mod Rows
+pub mod Bench
