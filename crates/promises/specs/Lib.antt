@@ -2,3 +2,4 @@ pub mod Refinement
 pub mod Calls
 pub mod Rows
 pub mod Bench
+pub mod Beyond

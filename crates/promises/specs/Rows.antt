@@ -6,6 +6,7 @@ use lib.ListN.{length, take, drop, replicate}
 use lib.Seq.{sets}
 use Rattle.laws.specs.Words.{numberAt, little}
 use Rattle.definition.specs.Visits.{visitOf}
+use Rattle.definition.specs.Listings.{listingCall}
 use Rattle.definition.specs.declared.Answer.{Answer}
 
 -- a change of some bytes
@@ -85,6 +86,9 @@ D = 1
 abbrev pub W : ℕ
 W = 2
 
+abbrev pub rB : ℕ
+rB = 3
+
 abbrev pub B : ℕ
 B = 4
 
@@ -93,6 +97,15 @@ X = 5
 
 abbrev pub K : ℕ
 K = 8
+
+abbrev pub RIP : ℕ
+RIP = 9
+
+abbrev pub EIP : ℕ
+EIP = 10
+
+abbrev pub RFLAGS : ℕ
+RFLAGS = 11
 
 -- specs
 abbrev pub Nothing : ℕ
@@ -143,6 +156,9 @@ MemBaseIndexScale = 30
 abbrev pub MemBaseIndexScale-mask : ℕ
 MemBaseIndexScale-mask = 31
 
+abbrev pub MemBaseIndexScaleDisp : ℕ
+MemBaseIndexScaleDisp = 32
+
 abbrev pub MemBaseIndexScaleDisp-mask : ℕ
 MemBaseIndexScaleDisp-mask = 33
 
@@ -152,17 +168,40 @@ DispU64 = 34
 abbrev pub DispU32 : ℕ
 DispU32 = 35
 
--- A row of visiting: a record, a file, a buffer of so many bytes 0xEE, a start; the answer, and the log that stands from the start on
+-- the bytes of events
+abbrev pub log : List (List ℕ) → List ℕ
+log [] = []
+log (e ∷ es) = e ++ log es
+
+abbrev pub reads : ℕ → ℕ → List ℕ
+reads bank number = 1 ∷ bank ∷ number ∷ []
+
+abbrev pub writes : ℕ → ℕ → List ℕ
+writes bank number = 2 ∷ bank ∷ number ∷ []
+
+abbrev pub loads : ℕ → ℕ → List ℕ
+loads a n = 3 ∷ (little 8 a ++ (n ∷ []))
+
+abbrev pub stores : ℕ → ℕ → List ℕ
+stores a n = 4 ∷ (little 8 a ++ (n ∷ []))
+
+abbrev pub loads-unknown : ℕ → List ℕ
+loads-unknown n = 5 ∷ n ∷ []
+
+abbrev pub stores-unknown : ℕ → List ℕ
+stores-unknown n = 6 ∷ n ∷ []
+
+-- A row of visiting or listing: a record, a file, a buffer of so many bytes 0xEE, a start; the answer, and what stands from the start on
 pub record Row : Type 0 where
   pub fields : List Patch
   pub file : List Patch
   pub room : ℕ
   pub start : ℕ
   pub answer : Answer
-  pub log : List ℕ
+  pub bytes : List ℕ
 
 abbrev pub rowIn : ℕ → ℕ → List Patch → List Patch → Answer → List ℕ → Row
-rowIn n s r f a l = record { fields = r; file = f; room = n; start = s; answer = a; log = l }
+rowIn n s r f a l = record { fields = r; file = f; room = n; start = s; answer = a; bytes = l }
 
 -- room for every log, and bytes before and behind it
 abbrev pub row : List Patch → List Patch → Answer → List ℕ → Row
@@ -171,13 +210,17 @@ row r f a l = rowIn 181 2 r f a l
 abbrev pub buffer : ℕ → List ℕ
 buffer n = replicate n 0xEE
 
--- what a row says, and what the definition gives
+-- what a row says: the answer, and the buffer with these bytes in it and all else as it was
 abbrev pub said : Row → Answer × List ℕ
-said r = (r .answer, take (r .start) (buffer (r .room)) ++ (r .log ++ drop (r .start + length (r .log)) (buffer (r .room))))
+said r = (r .answer, take (r .start) (buffer (r .room)) ++ (r .bytes ++ drop (r .start + length (r .bytes)) (buffer (r .room))))
 
-abbrev pub given : Row → Answer × List ℕ
-given r = visitOf (recordWith (r .fields)) (fileWith (r .file)) (buffer (r .room)) (r .start)
+-- every row says what the definition of visiting, or of listing, gives
+abbrev pub Visited : List Row → Type 0
+Visited rows = map (λ (r : Row). visitOf (recordWith (r .fields)) (fileWith (r .file)) (buffer (r .room)) (r .start)) rows ≡ map said rows
 
--- every row says what the definition gives
-abbrev pub Hold : List Row → Type 0
-Hold rows = map given rows ≡ map said rows
+abbrev pub Listed : List Row → Type 0
+Listed rows = map (λ (r : Row). listingCall (recordWith (r .fields)) (buffer (r .room)) (r .start)) rows ≡ map said rows
+
+-- every row of two says what a function gives: the input, and the output
+abbrev pub Gives : {A B : Type 0} → (A → B) → List (A × B) → Type 0
+Gives {A} {B} f rows = map (λ (r : A × B). f (r .0)) rows ≡ map (λ (r : A × B). r .1) rows
