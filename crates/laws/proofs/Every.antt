@@ -1,12 +1,13 @@
--- What holds of every element of a list.
-use Prim.Native.Nat.{ℕ, zero, suc, _+_}
+-- What holds of every element of a list. Assumes nothing.
+use Prim.Native.Nat.{ℕ, zero, suc, _+_, _<_}
 use native.Mathlib.Nat.{zero-add, add-zero, suc-add, add-suc}
-use mathlib.Core.Path.{_≡_, refl}
+use mathlib.Core.Path.{_≡_, refl, _∙_}
 use mathlib.Core.List.{List, [], _∷_, _++_, map}
-use mathlib.Core.Bool.{Bool, true, false, not, cond, _&&_, _||_}
+use mathlib.Core.Bool.{Bool, true, false, cond, _&&_}
 use lib.ListN.{getD, take}
-use Rattle.laws.proofs.Choice.{or-left, or-right, and-left, and-right}
-use Rattle.laws.specs.Tests.{any}
+use native.Mathlib.Omega.{arith}
+use Rattle.laws.proofs.Choice.{or-left, or-right, and-left, and-right, any-later, in-later, first-later}
+use Rattle.laws.specs.Tests.{any, isIn, firstOf}
 use Rattle.laws.specs.Lists.{each}
 
 module _ {A : Type 0} where
@@ -49,6 +50,30 @@ module _ {A : Type 0} where
   unfolding any
   any-false p [] e = tt
   any-false p (x ∷ xs) e = (or-left (p x) (any p xs) e, any-false p xs (or-right (p x) (any p xs) e))
+
+  pub any-none : (p : A → Bool) (xs : List A) → Every (λ x. p x ≡ false) xs → any p xs ≡ false
+  unfolding any
+  any-none p [] h = refl
+  any-none p (x ∷ xs) h = any-later p x xs (h .0) ∙ any-none p xs (h .1)
+
+-- a number is none of these
+pub in-none : (n : ℕ) (ks : List ℕ) → Every (λ k. n ≡ k → ⊥) ks → isIn n ks ≡ false
+unfolding isIn any
+in-none n [] h = refl
+in-none n (k ∷ ks) h = in-later n k ks (h .0) ∙ in-none n ks (h .1)
+
+-- no test holds
+pub first-none : (ts : List (Bool × ℕ)) → Every (λ t. t .0 ≡ false) ts → firstOf ts ≡ 0
+unfolding firstOf
+first-none [] h = refl
+first-none (t ∷ ts) h = first-later (t .0) (t .1) ts (h .0) ∙ first-none ts (h .1)
+
+-- 0 says so, where no test has the number 0
+pub first-zero : (ts : List (Bool × ℕ)) → Every (λ t. 0 < t .1) ts → firstOf ts ≡ 0 → Every (λ t. t .0 ≡ false) ts
+unfolding firstOf
+first-zero [] h e = tt
+first-zero ((true, n) ∷ ts) h e = absurd (omega (arith, h .0))
+first-zero ((false, n) ∷ ts) h e = (refl, first-zero ts (h .1) e)
 
 pub every-map : {A B : Type 0} (P : B → Type 0) (f : A → B) (xs : List A) → Every (λ x. P (f x)) xs → Every P (map f xs)
 every-map P f [] p = tt

@@ -1,12 +1,13 @@
 -- The laws of `Logged`: nothing written, one segment more through the part that is lent on, and the room that is left. They hold
 -- for the bytes of anything: events of a log, steps of a visit, items of a listing. Assumes nothing.
-use Prim.Native.Nat.{ℕ, zero, suc, _+_, _-_, _^_, _≤_, _<_}
+use Prim.Native.Nat.{ℕ, suc, _+_, _-_, _^_, _≤_, _<_}
 use native.Mathlib.Nat.{le-refl}
+use native.Mathlib.Numerals.{add-one}
 use native.Mathlib.Omega.{arith}
-use mathlib.Core.Path.{_≡_, refl, sym, ap, ap₂, _∙_}
+use mathlib.Core.Path.{_≡_, refl, sym, ap, _∙_}
 use mathlib.Core.List.{List, [], _∷_, _++_, append-assoc, append-nil}
-use lib.ListN.{length, take, drop, length-append, length-take, length-drop, drop-of-length-le}
-use lib.Seq.{take-all, take-at, drop-at, drop-drop, length-take-le}
+use lib.ListN.{length, take, drop, set, getD, length-append, length-drop, drop-of-length-le}
+use lib.Seq.{take-all, take-at, drop-at, drop-cons, drop-drop, set-at, append-snoc}
 use mir.Val.{Fits}
 use mir.Syntax.{w64}
 use Rattle.laws.specs.Lists.{each, flat}
@@ -23,13 +24,30 @@ back mid n ys = take n mid ++ (ys ++ drop (length mid - n) (drop n mid))
 pub part-is : (mid : List ℕ) (n : ℕ) → part mid n ≡ drop n mid
 part-is mid n = take-all (length mid - n) (drop n mid) (simp length-drop (le-refl _))
 
+pub part-length : (mid : List ℕ) (n : ℕ) → length (part mid n) ≡ length mid - n
+part-length mid n = ap length (part-is mid n) ∙ length-drop n mid
+
 pub back-is : (mid : List ℕ) (n : ℕ) (ys : List ℕ) → back mid n ys ≡ take n mid ++ ys
 back-is mid n ys =
     simp (drop-of-length-le (drop n mid) {i = length mid - n} (simp length-drop (le-refl _)), append-nil)
 
--- what is left of a buffer past its first bytes
-drop-both : (xs ys old : List ℕ) → drop (length ys) (drop (length xs) old) ≡ drop (length (xs ++ ys)) old
-drop-both xs ys old = drop-drop (length ys) (length xs) old ∙ simp length-append
+-- bytes laid at the front, then more at the front of the part behind them: as if laid at once
+pub laid :
+    (xs ys old : List ℕ) {mid new : List ℕ} {m : ℕ} (n : ℕ)
+    → length xs ≡ m → mid ≡ xs ++ drop m old → new ≡ ys ++ drop n (part mid m) → back mid m new ≡ (xs ++ ys) ++ drop (m + n) old
+laid xs ys old {mid} {new} {m} n long a b =
+    let front : take m mid ≡ xs = rw a (take-at xs (drop m old) m long) in
+    let rest : drop m mid ≡ drop m old = rw a (drop-at xs (drop m old) m long) in
+    back-is mid m new
+    ∙ rw (front, b, part-is mid m, rest, drop-drop n m old, append-assoc xs ys (drop (m + n) old))
+
+-- bytes that have room leave the buffer as long as it was
+pub laid-length : (xs old : List ℕ) {m : ℕ} → length xs ≡ m → m ≤ length old → length (xs ++ drop m old) ≡ length old
+laid-length xs old {m} long h = simp (length-append, length-drop, long) (omega arith)
+
+-- one byte more, stored behind those that are laid
+pub stored : (xs old : List ℕ) (v : ℕ) {m : ℕ} → length xs ≡ m → m < length old → set (xs ++ drop m old) m v ≡ (xs ++ (v ∷ [])) ++ drop (m + 1) old
+stored xs old v {m} long h = rw (drop-cons old m 0 h, set-at xs (getD old m 0) (drop (suc m) old) v m long, add-one m, append-snoc xs v (drop (suc m) old))
 
 module _ {A : Type 0} (enc : A → List ℕ) where
   pub each-append : (xs ys : List A) → each enc (xs ++ ys) ≡ each enc xs ++ each enc ys
@@ -67,34 +85,24 @@ module _ {A : Type 0} {enc : A → List ℕ} where
       {xs ys : List A} {old mid new : List ℕ} {m n : ℕ}
       → Logged enc xs old mid m → Logged enc ys (part mid m) new n → Logged enc (xs ++ ys) old (back mid m new) (m + n)
   on {xs} {ys} {old} {mid} {new} {m} {n} a b =
-      let es = each enc xs in
-      let fs = each enc ys in
-      let front : take m mid ≡ es = rw (a .bytes) (take-at es (drop (length es) old) m (sym (a .count))) in
-      let rest : drop m mid ≡ drop (length es) old = rw (a .bytes) (drop-at es (drop (length es) old) m (sym (a .count))) in
-      let tail : new ≡ fs ++ drop (length (es ++ fs)) old =
-      b .bytes ∙ ap (λ (l : List ℕ). fs ++ drop (length fs) l) (part-is mid m ∙ rest)
-      ∙ ap (λ (l : List ℕ). fs ++ l) (drop-both es fs old) in
       record {
         count = rw (each-append enc xs ys) (simp (length-append, a .count, b .count));
-        bytes = rw (each-append enc xs ys) (back-is mid m new ∙ ap₂ _++_ front tail ∙ sym (append-assoc es fs _));
+        bytes =
+            rw (each-append enc xs ys, length-append (each enc xs) (each enc ys), ← a .count)
+            (laid (each enc xs) (each enc ys) old (length (each enc ys)) (sym (a .count)) (rw (← a .count) at (a .bytes)) (b .bytes));
       }
 
   -- a writer that had room leaves the buffer as long as it was
   pub same-long : {xs : List A} {old new : List ℕ} {n : ℕ} → Logged enc xs old new n → size enc xs ≤ length old → length new ≡ length old
   unfolding size
-  same-long {xs} {old} {new} {n} a h =
-      let e : length new ≡ length (each enc xs) + (length old - length (each enc xs)) = ap length (a .bytes) ∙ simp (length-append, length-drop) in
-      omega arith
+  same-long {xs} {old} a h = ap length (a .bytes) ∙ laid-length (each enc xs) old refl h
 
   -- the room for the rest, in the part that is lent on
   pub room :
       {xs : List A} {old mid : List ℕ} {m : ℕ} (k : ℕ)
       → Logged enc xs old mid m → size enc xs + k ≤ length old → k ≤ length (part mid m)
   unfolding size
-  room {xs} {old} {mid} {m} k a h =
-      let e : length (part mid m) ≡ length mid - m = ap length (part-is mid m) ∙ length-drop m mid in
-      let f : length mid ≡ length (each enc xs) + (length old - length (each enc xs)) = ap length (a .bytes) ∙ simp (length-append, length-drop) in
-      omega (arith, a .count)
+  room {xs} {old} {mid} {m} k a h = omega (arith, a .count, part-length mid m, same-long a (omega arith))
 
 -- A run of writes under way: of all the things some are written to the front of `old`, which is now `mid`, m bytes of it; `todo` are
 -- the segments to come.
