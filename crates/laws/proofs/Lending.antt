@@ -24,6 +24,9 @@ back mid n ys = take n mid ++ (ys ++ drop (length mid - n) (drop n mid))
 pub part-is : (mid : List ℕ) (n : ℕ) → part mid n ≡ drop n mid
 part-is mid n = take-all (length mid - n) (drop n mid) (simp length-drop (le-refl _))
 
+pub part-length : (mid : List ℕ) (n : ℕ) → length (part mid n) ≡ length mid - n
+part-length mid n = ap length (part-is mid n) ∙ length-drop n mid
+
 pub back-is : (mid : List ℕ) (n : ℕ) (ys : List ℕ) → back mid n ys ≡ take n mid ++ ys
 back-is mid n ys =
     simp (drop-of-length-le (drop n mid) {i = length mid - n} (simp length-drop (le-refl _)), append-nil)
@@ -37,6 +40,10 @@ laid xs ys old {mid} {new} {m} n long a b =
     let rest : drop m mid ≡ drop m old = rw a (drop-at xs (drop m old) m long) in
     back-is mid m new
     ∙ rw (front, b, part-is mid m, rest, drop-drop n m old, append-assoc xs ys (drop (m + n) old))
+
+-- bytes that have room leave the buffer as long as it was
+pub laid-length : (xs old : List ℕ) {m : ℕ} → length xs ≡ m → m ≤ length old → length (xs ++ drop m old) ≡ length old
+laid-length xs old {m} long h = simp (length-append, length-drop, long) (omega arith)
 
 -- one byte more, stored behind those that are laid
 pub stored : (xs old : List ℕ) (v : ℕ) {m : ℕ} → length xs ≡ m → m < length old → set (xs ++ drop m old) m v ≡ (xs ++ (v ∷ [])) ++ drop (m + 1) old
@@ -88,19 +95,14 @@ module _ {A : Type 0} {enc : A → List ℕ} where
   -- a writer that had room leaves the buffer as long as it was
   pub same-long : {xs : List A} {old new : List ℕ} {n : ℕ} → Logged enc xs old new n → size enc xs ≤ length old → length new ≡ length old
   unfolding size
-  same-long {xs} {old} {new} {n} a h =
-      let e : length new ≡ length (each enc xs) + (length old - length (each enc xs)) = ap length (a .bytes) ∙ simp (length-append, length-drop) in
-      omega arith
+  same-long {xs} {old} a h = ap length (a .bytes) ∙ laid-length (each enc xs) old refl h
 
   -- the room for the rest, in the part that is lent on
   pub room :
       {xs : List A} {old mid : List ℕ} {m : ℕ} (k : ℕ)
       → Logged enc xs old mid m → size enc xs + k ≤ length old → k ≤ length (part mid m)
   unfolding size
-  room {xs} {old} {mid} {m} k a h =
-      let e : length (part mid m) ≡ length mid - m = ap length (part-is mid m) ∙ length-drop m mid in
-      let f : length mid ≡ length (each enc xs) + (length old - length (each enc xs)) = ap length (a .bytes) ∙ simp (length-append, length-drop) in
-      omega (arith, a .count)
+  room {xs} {old} {mid} {m} k a h = omega (arith, a .count, part-length mid m, same-long a (omega arith))
 
 -- A run of writes under way: of all the things some are written to the front of `old`, which is now `mid`, m bytes of it; `todo` are
 -- the segments to come.

@@ -1,6 +1,8 @@
+-- The laws that every layer cites, one subject a file.
 pub mod Lending
 pub mod Every
 pub mod Span
 pub mod Choice
 pub mod Numbers
 pub mod Bits
+pub mod Keys

@@ -1,3 +1,4 @@
+-- The definitions that every layer cites.
 pub mod Words
 pub mod Tests
 pub mod Lists
