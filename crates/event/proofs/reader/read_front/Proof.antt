@@ -22,7 +22,7 @@ sub-if3 : tie.Need-sub-if3
 sub-if3 c = search needs
 
 returns-3 : tie.Need-returns-3
-returns-3 c = sym (front-cut (now (c .before .before .before .before .before .before .args .log)) (c .before .before .body-of .ensures) (c .before .if2 .left) (omega arith) (c .if3 .taken))
+returns-3 c = sym (front-cut (now (c .before .before .before .before .before .before .args .log)) (c .before .before .body-of .ensures) (c .before .if2 .left) (omega arith) (omega arith))
 
 front-event-requires : tie.Need-front-event-requires
 front-event-requires c κs = search needs
