@@ -8,7 +8,7 @@ use Rattle.laws.specs.Lending.{size, Logged}
 use Rattle.registers.specs.declared.RegisterFile.{RegisterFile}
 use Rattle.definition.specs.Steps.{Step}
 use Rattle.definition.specs.Logs.{stepEvents, eventsOf, eventBytes, bytesOf, stepBytes}
-use Rattle.definition.proofs.Bytes.{steps-bytes}
+pub use Rattle.definition.proofs.Bytes.{steps-bytes}
 
 -- the bytes of one step
 step-bytes : (f : RegisterFile) (s : Step) → each (stepBytes f) (s ∷ []) ≡ bytesOf (stepEvents f s)

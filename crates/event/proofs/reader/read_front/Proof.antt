@@ -1,8 +1,9 @@
-use Rattle.event.proofs.Fronts.{front-empty, front-unknown, front-cut, front-whole}
-use denote.Ref.{now}
-use mathlib.Core.Path.{sym}
+-- Each answer is the definition's under the tests that led to it. Assumes nothing.
 use native.Mathlib.Omega.{arith}
+use mathlib.Core.Path.{sym}
+use denote.Ref.{now}
 use borrow.Author.Needs.{needs}
+use Rattle.event.proofs.Fronts.{front-empty, front-unknown, front-cut, front-whole}
 use Rattle.event.proofs.reader.read_front.Statement.{statement}
 use Rattle.event.proofs.reader.read_front.Tie as tie
 
