@@ -4,7 +4,7 @@ use Prim.Native.Nat.{ℕ}
 use mathlib.Core.Path.{_≡_, refl, ap₂, fun-ext}
 use mathlib.Core.List.{List, [], _∷_, _++_, map, List·Memᴰ, List·Memᴰ·head, Memᴰ·append-left, Memᴰ·append-right, Memᴰ·map}
 use Rattle.laws.specs.Lists.{each, flat}
-use Rattle.registers.specs.Files.{partOf, slotOf, after, valueOf}
+use Rattle.registers.specs.Files.{partOf, slotOf, after, readPart, valueOf}
 use Rattle.registers.specs.declared.RegSpec.{RegSpec}
 use Rattle.registers.specs.declared.RegisterFile.{RegisterFile}
 use Rattle.registers.specs.declared.Value.{Value}
@@ -49,7 +49,7 @@ memory-refines Store Unknown Unknown n e = same
 -- the first half
 module _ (f g : RegisterFile) (more : Extends f g) where
   value-gives : (y : RegSpec) → Gives (valueOf f y) (valueOf g y)
-  unfolding valueOf
+  unfolding valueOf readPart
   value-gives y = gives-after (slotOf f (partOf y .slot)) (slotOf g (partOf y .slot)) _ _ (more (partOf y .slot)) (λ n. refl)
 
   term-gives : (t : Term) → Gives (termOf f t) (termOf g t)

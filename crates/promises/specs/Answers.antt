@@ -12,8 +12,10 @@ use Rattle.digest.specs.Digests.{withPrivilege, withFlags, withNontrivial, with
 use Rattle.digest.specs.declared.BehaviorDigest.{BehaviorDigest}
 use Rattle.digest.specs.declared.DigestAnswer.{DigestAnswer}
 use Rattle.definition.specs.Behaviors.{digestCall, privilegeCall, exceptionsCall}
+use Rattle.definition.specs.Visits.{numberOf, opcodeOf, countOf}
 use Rattle.definition.specs.Readings.{readAt}
 use Rattle.definition.specs.declared.PrivilegeAnswer.{PrivilegeAnswer}
+use Rattle.definition.specs.declared.Answer.{Answer}
 use Rattle.definition.specs.declared.Answer.the-variants.{Done, Refused, Complex}
 use Rattle.definition.specs.declared.Event.the-variants.{RegisterRead, RegisterWrite, MemoryRead, MemoryWrite, UnknownRead, UnknownWrite}
 use Rattle.definition.specs.declared.Reading.{Reading}
@@ -191,6 +193,19 @@ readings =
     ∷ (((5 ∷ 0 ∷ []), 0), Bad 2)
     ∷ (((6 ∷ 65 ∷ []), 0), Bad 2)
     ∷ []
+
+-- Document 01's numbers of answers: number, opcode and count of an answer; of a reading; of a privilege level
+abbrev pub numbersOf : Answer → ℕ × ℕ × ℕ
+numbersOf a = (numberOf a, opcodeOf a, countOf a)
+
+unfoldable pub answer-numbers : List (Answer × (ℕ × ℕ × ℕ))
+answer-numbers = (Done 5, (0, 0, 5)) ∷ (Refused 3, (3, 0, 0)) ∷ (Complex 9, (4, 9, 0)) ∷ []
+
+unfoldable pub reading-numbers : List (Reading × ℕ)
+reading-numbers = (Found (UnknownRead 1) 2, 0) ∷ (Bad 1, 1) ∷ (Bad 2, 2) ∷ (Finished, 255) ∷ []
+
+unfoldable pub level-numbers : List (PrivilegeLevel × ℕ)
+level-numbers = (Any, 0) ∷ (PL0, 1) ∷ (Special, 2) ∷ (Reserved, 3) ∷ []
 
 -- Setters: a vector above 31, an operand above 3 and a list above 28 are refused 2, and every other number is 0
 abbrev pub vectors : (ℕ × ℕ) × Bool → InfoAnswer
