@@ -134,7 +134,7 @@ beyond-holds =
 
 pub answers-hold : promised.AnswersHold
 answers-hold =
-    (tables.listings-hold, tables.digests-hold, tables.exceptions-hold, tables.privileges-hold, tables.readings-hold, tables.answer-numbers-hold, tables.reading-numbers-hold, tables.level-numbers-hold, tables.vectors-hold, tables.may-holds, tables.setters-hold)
+    (tables.listings-hold, tables.digests-hold, tables.exceptions-hold, tables.privileges-hold, tables.readings-hold, tables.answer-numbers-hold, tables.reading-numbers-hold, tables.level-numbers-hold, tables.files-hold, tables.records-hold, tables.entries-hold, tables.vectors-hold, tables.any-holds, tables.may-holds, tables.setters-hold)
 
 pub sweeps-hold : promised.SweepsHold
 sweeps-hold =

@@ -30,7 +30,7 @@ use Rattle.promises.specs.Calls.{Refusal, Alike, Written, ReadsFrom, Add
 use Rattle.promises.specs.Rows.{recordWith, fileWith, buffer, Visited, Listed, Gives}
 use Rattle.promises.specs.Bench.{bench}
 use Rattle.promises.specs.Beyond.{widening, masking, leas, ordering, addressing, malformed, refusing}
-use Rattle.promises.specs.Answers.{listings, digestFor, digests, exceptionsFor, exceptions, privilegeFor, privileges, readingFrom, readings, numbersOf, answer-numbers, reading-numbers, level-numbers, vectors, vector-rows, may, may-rows, setter, setter-rows}
+use Rattle.promises.specs.Answers.{listings, digestFor, digests, exceptionsFor, exceptions, privilegeFor, privileges, readingFrom, readings, numbersOf, answer-numbers, reading-numbers, level-numbers, fileFor, files, recordFor, records, entryFor, entries, any-none, any-rows, vectors, vector-rows, may, may-rows, setter, setter-rows}
 use Rattle.promises.specs.Sweeps.{every-list, every-spec-read, every-spec-written, fixedBy, every-opcode, namedIn, every-bank, mulOf, every-width, valueIn, every-value, atSize0, every-memory-list}
 use Rattle.promises.specs.Fullest.{fullest, fullest-file}
 
@@ -163,7 +163,11 @@ AnswersHold =
     × Gives numbersOf answer-numbers
     × Gives readingNumber reading-numbers
     × Gives levelNumber level-numbers
+    × Gives fileFor files
+    × Gives recordFor records
+    × Gives entryFor entries
     × Gives vectors vector-rows
+    × Gives any-none any-rows
     × Gives may may-rows
     × Gives setter setter-rows
 
