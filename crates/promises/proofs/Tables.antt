@@ -1,5 +1,5 @@
 -- Every row of the tables holds, by computing.
-use mathlib.Core.Path.{_≡_, refl}
+use mathlib.Core.Path.{refl}
 use Rattle.access.specs.Privileges.{levelNumber}
 use Rattle.definition.specs.Readings.{readingNumber}
 use Rattle.promises.specs.Rows.{Visited, Listed, Gives}

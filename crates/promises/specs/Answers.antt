@@ -29,7 +29,7 @@ use Rattle.definition.specs.declared.Answer.the-variants.{Done, Refused, Comple
 use Rattle.definition.specs.declared.Event.the-variants.{RegisterRead, RegisterWrite, MemoryRead, MemoryWrite, UnknownRead, UnknownWrite}
 use Rattle.definition.specs.declared.Reading.{Reading}
 use Rattle.definition.specs.declared.Reading.the-variants.{Found, Bad, Finished}
-use Rattle.promises.specs.Rows.{Patch, recordWith, fileWith, knows, put, long, opcode, count, specs, reg, size, prefixes, behavior, access, list, Q, D, W, Nothing, RegRRR, RegMMM, Deref, Disp, Row, rowIn, row, Gives}
+use Rattle.promises.specs.Rows.{Patch, recordWith, fileWith, knows, long, opcode, count, specs, reg, size, prefixes, behavior, access, list, W, Nothing, RegRRR, RegMMM, Deref, Row, rowIn, row}
 
 -- Listing
 unfoldable pub listings : List Row

@@ -2,7 +2,7 @@
 -- The words that the statements use stand in Refinement.antt (files and events), Calls.antt (calls) and Rows.antt (tables).
 use Prim.Native.Nat.{ℕ, _+_, _≤_}
 use mathlib.Core.Path.{_≡_}
-use mathlib.Core.List.{List, [], _∷_, _++_, List·Memᴰ}
+use mathlib.Core.List.{List, [], _++_, List·Memᴰ}
 use mathlib.Core.Logic.{_⊎_, _↔_}
 use mathlib.Core.Bool.{true, not}
 use lib.ListN.{length, take, drop, set}
@@ -27,7 +27,7 @@ use Rattle.definition.specs.declared.Event.{Event}
 use Rattle.definition.specs.declared.Reading.the-variants.{Found}
 use Rattle.promises.specs.Refinement.{Extends, AgreeOn}
 use Rattle.promises.specs.Calls.{Refusal, Alike, Written, ReadsFrom, Addressable, Program, OneOutcome}
-use Rattle.promises.specs.Rows.{recordWith, fileWith, buffer, Visited, Listed, Gives}
+use Rattle.promises.specs.Rows.{fileWith, buffer, Visited, Listed, Gives}
 use Rattle.promises.specs.Bench.{bench}
 use Rattle.promises.specs.Beyond.{widening, masking, leas, ordering, addressing, malformed, refusing}
 use Rattle.promises.specs.Answers.{listings, digestFor, digests, exceptionsFor, exceptions, privilegeFor, privileges, readingFrom, readings, numbersOf, answer-numbers, reading-numbers, level-numbers, fileFor, files, recordFor, records, entryFor, entries, any-none, any-rows, vectors, vector-rows, may, may-rows, setter, setter-rows}
