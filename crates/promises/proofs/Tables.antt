@@ -1,9 +1,11 @@
 -- Every row of the tables holds, by computing.
-use mathlib.Core.Path.{_≡_, refl}
+use mathlib.Core.Path.{refl}
+use Rattle.access.specs.Privileges.{levelNumber}
+use Rattle.definition.specs.Readings.{readingNumber}
 use Rattle.promises.specs.Rows.{Visited, Listed, Gives}
 use Rattle.promises.specs.Bench.{bench}
 use Rattle.promises.specs.Beyond.{widening, masking, leas, ordering, addressing, malformed, refusing}
-use Rattle.promises.specs.Answers.{listings, digestFor, digests, exceptionsFor, exceptions, privilegeFor, privileges, readingFrom, readings, vectors, vector-rows, may, may-rows, setter, setter-rows}
+use Rattle.promises.specs.Answers.{listings, digestFor, digests, exceptionsFor, exceptions, privilegeFor, privileges, readingFrom, readings, numbersOf, answer-numbers, reading-numbers, level-numbers, fileFor, files, recordFor, records, entryFor, entries, any-none, any-rows, vectors, vector-rows, may, may-rows, setter, setter-rows}
 use Rattle.promises.specs.Sweeps.{every-list, every-spec-read, every-spec-written, fixedBy, every-opcode, namedIn, every-bank, mulOf, every-width, valueIn, every-value, atSize0, every-memory-list}
 use Rattle.promises.proofs.Opened.{opened}
 
@@ -58,6 +60,34 @@ privileges-hold = refl
 pub readings-hold : Gives readingFrom readings
 unfolding opened readings
 readings-hold = refl
+
+pub answer-numbers-hold : Gives numbersOf answer-numbers
+unfolding answer-numbers
+answer-numbers-hold = refl
+
+pub reading-numbers-hold : Gives readingNumber reading-numbers
+unfolding reading-numbers
+reading-numbers-hold = refl
+
+pub level-numbers-hold : Gives levelNumber level-numbers
+unfolding level-numbers
+level-numbers-hold = refl
+
+pub files-hold : Gives fileFor files
+unfolding opened files
+files-hold = refl
+
+pub records-hold : Gives recordFor records
+unfolding opened records
+records-hold = refl
+
+pub entries-hold : Gives entryFor entries
+unfolding opened entries
+entries-hold = refl
+
+pub any-holds : Gives any-none any-rows
+unfolding any-rows
+any-holds = refl
 
 pub vectors-hold : Gives vectors vector-rows
 unfolding opened vector-rows

@@ -2,15 +2,12 @@
 use Prim.Native.Nat.{ℕ, _+_}
 use native.Mathlib.Omega.{arith}
 use mathlib.Core.Path.{_≡_, refl, sym, ap, _∙_}
-use mathlib.Core.Logic.{_⊎_, ⊎-elim}
-use mathlib.Core.List.{List, [], _∷_, _++_}
-use lib.ListN.{length, getD, set}
-use Rattle.laws.specs.Lending.{splice}
-use Rattle.registers.specs.Files.{fileOf}
-use Rattle.definition.specs.Logs.{bytesOf}
-use Rattle.definition.specs.Visits.{logOf, visitOf, countOf}
+use mathlib.Core.Logic.{⊎-elim}
+use mathlib.Core.List.{List, [], _++_}
+use lib.ListN.{getD, set}
+use Rattle.definition.specs.Visits.{visitOf, countOf}
 use Rattle.definition.specs.declared.Answer.{Answer}
-use Rattle.definition.specs.declared.Answer.the-variants.{Done, Refused, Complex}
+use Rattle.definition.specs.declared.Answer.the-variants.{Done}
 use Rattle.promises.specs.Calls.{Refusal, by-number, by-opcode, Program}
 use Rattle.promises.specs.Rows.{recordWith, fileWith, buffer}
 use Rattle.promises.specs.Bench.{P1, P1-log, P2, P2-file, P2-log, P3-log}
@@ -56,6 +53,10 @@ no-refusal : (a : Answer) (n : ℕ) → Refusal a → a ≡ Done n → ⊥
 no-refusal a n (by-number {k = k}) e = not-refused n k (sym e)
 no-refusal a n (by-opcode {o = o}) e = not-complex n o (sym e)
 
+-- equal buffers have equal bytes
+byte-at : (k : ℕ) (p q : List ℕ) → p ≡ q → getD p k 0 ≡ getD q k 0
+byte-at k p q e = ap (λ (l : List ℕ). getD l k 0) e
+
 module _ (v : Program) (m : Meets v) where
   done-1 : v b1 blind room 0 .0 ≡ Done 6
   done-1 = ap (λ (r : Answer × List ℕ). r .0) (m b1 blind room 0 ∙ at-P1)
@@ -69,10 +70,6 @@ module _ (v : Program) (m : Meets v) where
   left-2 : v b2 f2 room 0 .1 ≡ P2-log ++ buffer 8
   left-2 = ap (λ (r : Answer × List ℕ). r .1) (m b2 f2 room 0 ∙ at-P2)
 
-  -- two buffers that differ at a place
-  apart : (k : ℕ) (p q : List ℕ) → p ≡ q → getD p k 0 ≡ getD q k 0
-  apart k p q e = ap (λ (l : List ℕ). getD l k 0) e
-
 pub not-refusing-all : NotRefusingAll
 not-refusing-all v m h = no-refusal (v b1 blind room 0 .0) 6 (h b1 blind room 0) (done-1 v m)
 
@@ -83,20 +80,20 @@ not-one-log v m l h =
     (λ e. ⊎-elim
     (λ r. no-refusal (v b2 f2 room 0 .0) 32 r (done-2 v m))
     (λ g.
-    let z : _≡_ {A = ℕ} 0x00 0x0B = apart v m 1 (P1-log ++ buffer 34) (P2-log ++ buffer 8) (sym (left-1 v m) ∙ e ∙ sym g ∙ left-2 v m) in
+    let z : _≡_ {A = ℕ} 0x00 0x0B = byte-at 1 (P1-log ++ buffer 34) (P2-log ++ buffer 8) (sym (left-1 v m) ∙ e ∙ sym g ∙ left-2 v m) in
     omega arith)
     (h b2 f2 room 0))
     (h b1 blind room 0)
 
 pub not-untouched : NotUntouched
 not-untouched v m h =
-    let z : _≡_ {A = ℕ} 0x02 0xEE = apart v m 0 (P1-log ++ buffer 34) room (sym (left-1 v m) ∙ h b1 blind room 0) in
+    let z : _≡_ {A = ℕ} 0x02 0xEE = byte-at 0 (P1-log ++ buffer 34) room (sym (left-1 v m) ∙ h b1 blind room 0) in
     omega arith
 
 pub not-operand-0-alone : NotOperand0Alone
 not-operand-0-alone v m h =
     let z : _≡_ {A = ℕ} 0x01 0xEE =
-    apart v m 29 (P2-log ++ buffer 8) (visitOf (set b2 3 1) f2 room 0 .1) (sym (left-2 v m) ∙ h b2 f2 room 0) ∙ at-P2-first in
+    byte-at 29 (P2-log ++ buffer 8) (visitOf (set b2 3 1) f2 room 0 .1) (sym (left-2 v m) ∙ h b2 f2 room 0) ∙ at-P2-first in
     omega arith
 
 pub count-is-the-length : CountIsTheLength
@@ -115,6 +112,6 @@ not-one-count v m n h =
 pub not-all-unknown : NotAllUnknown
 not-all-unknown v m h =
     let z : _≡_ {A = ℕ} 0x03 0x05 =
-    apart v m 6 (P2-log ++ buffer 8) (P3-log ++ buffer 24)
+    byte-at 6 (P2-log ++ buffer 8) (P3-log ++ buffer 24)
     (sym (left-2 v m) ∙ h b2 f2 room 0 ∙ ap (λ (r : Answer × List ℕ). r .1) at-P2-blind) in
     omega arith

@@ -2,11 +2,12 @@
 -- The words that the statements use stand in Refinement.antt (files and events), Calls.antt (calls) and Rows.antt (tables).
 use Prim.Native.Nat.{ℕ, _+_, _≤_}
 use mathlib.Core.Path.{_≡_}
-use mathlib.Core.List.{List, [], _∷_, _++_, List·Memᴰ}
+use mathlib.Core.List.{List, [], _++_, List·Memᴰ}
 use mathlib.Core.Logic.{_⊎_, _↔_}
 use mathlib.Core.Bool.{true, not}
 use lib.ListN.{length, take, drop, set}
 use Rattle.laws.specs.Lending.{splice}
+use Rattle.access.specs.Privileges.{levelNumber}
 use Rattle.registers.specs.Files.{fileOf, isFile, valueOf}
 use Rattle.registers.specs.declared.RegSpec.{RegSpec}
 use Rattle.registers.specs.declared.RegisterFile.{RegisterFile}
@@ -18,7 +19,7 @@ use Rattle.definition.specs.Steps.{stepsOf}
 use Rattle.definition.specs.Logs.{eventsOf, eventBytes, bytesOf}
 use Rattle.definition.specs.Visits.{fixedRecord, logOf, refusalOf, visitUnder, visitOf, numberOf}
 use Rattle.definition.specs.Listings.{listingOf, listingRefusal, listingCall}
-use Rattle.definition.specs.Readings.{isEvent, readFront, readAt, Reads}
+use Rattle.definition.specs.Readings.{isEvent, readFront, readAt, Reads, readingNumber}
 use Rattle.definition.specs.declared.Address.{Address}
 use Rattle.definition.specs.declared.Answer.{Answer}
 use Rattle.definition.specs.declared.Answer.the-variants.{Done, Refused}
@@ -26,10 +27,10 @@ use Rattle.definition.specs.declared.Event.{Event}
 use Rattle.definition.specs.declared.Reading.the-variants.{Found}
 use Rattle.promises.specs.Refinement.{Extends, AgreeOn}
 use Rattle.promises.specs.Calls.{Refusal, Alike, Written, ReadsFrom, Addressable, Program, OneOutcome}
-use Rattle.promises.specs.Rows.{recordWith, fileWith, buffer, Visited, Listed, Gives}
+use Rattle.promises.specs.Rows.{fileWith, buffer, Visited, Listed, Gives}
 use Rattle.promises.specs.Bench.{bench}
 use Rattle.promises.specs.Beyond.{widening, masking, leas, ordering, addressing, malformed, refusing}
-use Rattle.promises.specs.Answers.{listings, digestFor, digests, exceptionsFor, exceptions, privilegeFor, privileges, readingFrom, readings, vectors, vector-rows, may, may-rows, setter, setter-rows}
+use Rattle.promises.specs.Answers.{listings, digestFor, digests, exceptionsFor, exceptions, privilegeFor, privileges, readingFrom, readings, numbersOf, answer-numbers, reading-numbers, level-numbers, fileFor, files, recordFor, records, entryFor, entries, any-none, any-rows, vectors, vector-rows, may, may-rows, setter, setter-rows}
 use Rattle.promises.specs.Sweeps.{every-list, every-spec-read, every-spec-written, fixedBy, every-opcode, namedIn, every-bank, mulOf, every-width, valueIn, every-value, atSize0, every-memory-list}
 use Rattle.promises.specs.Fullest.{fullest, fullest-file}
 
@@ -159,7 +160,14 @@ AnswersHold =
     × Gives exceptionsFor exceptions
     × Gives privilegeFor privileges
     × Gives readingFrom readings
+    × Gives numbersOf answer-numbers
+    × Gives readingNumber reading-numbers
+    × Gives levelNumber level-numbers
+    × Gives fileFor files
+    × Gives recordFor records
+    × Gives entryFor entries
     × Gives vectors vector-rows
+    × Gives any-none any-rows
     × Gives may may-rows
     × Gives setter setter-rows
 
