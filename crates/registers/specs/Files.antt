@@ -28,9 +28,12 @@ isFile b = eqb (length b) 141 && eqb (getD b 0 0) 0x20 && ltb (numberAt b 1 4) (
 unfoldable pub noFile : RegisterFile
 noFile = record { values = replicate 17 0; known = 0 }
 
+abbrev pub refusedFile : FileAnswer
+refusedFile = record { number = 3; file = noFile }
+
 -- the file, or refusal 3
 unfoldable pub fileAnswer : List ℕ → FileAnswer
-fileAnswer b = cond (isFile b) (record { number = 0; file = fileOf b }) (record { number = 3; file = noFile })
+fileAnswer b = cond (isFile b) (record { number = 0; file = fileOf b }) refusedFile
 
 -- the part of a full register that a register is: the slot of the file that it lies in, the bits below it, and its own bits
 pub record Part : Type 0 where
@@ -53,7 +56,7 @@ bankParts n =
     ∷ part n 0 32
     ∷ part n 0 16
     ∷ part n 0 8
-    ∷ cond (ltb n 4) (part n 0 8) (part (n - 4) 8 8)
+    ∷ part (cond (ltb n 4) n (n - 4)) (cond (ltb n 4) 0 8) 8
     ∷ nowhere ∷ nowhere ∷ nowhere ∷ nowhere
     ∷ part 16 0 64
     ∷ part 16 0 32

@@ -1,11 +1,11 @@
 // Registers by bank and number, and the register file that says what is known of them.
 ghost use mathlib.Core.Path.{_≡_};
 ghost use mathlib.Core.Bool.{cond};
-ghost use Prim.Native.Nat.{_+_, _≤_, _<_, _/_, _%_, _^_};
+ghost use Prim.Native.Nat.{_<_, _/_, _%_, _^_};
 ghost use lib.ListN.{length};
 ghost use lib.Dec.{ltb};
 ghost use Rattle.registers.specs.Banks.{isRegister, isLogged, widthOf, reg};
-ghost use Rattle.registers.specs.Files.{slotOf, valueOf, after};
+ghost use Rattle.registers.specs.Files.{fileOf, refusedFile, fileAnswer, slotOf, valueOf, after};
 ghost use Rattle.registers.specs.declared.Value.the-variants.{Known, Unknown};
 
 // A register: its bank, and its number there.
@@ -65,6 +65,70 @@ impl RegSpec {
 }
 
 impl RegisterFile {
+    // The file in 141 bytes, or refusal 3.
+    pub fn from_bytes(b: &[u8]) -> FileAnswer
+        ensures { λ r. ⌜ r ≡ fileAnswer (now (b .entry)) ⌝ }
+    {
+        if b.len() != 141 {
+            return RegisterFile::refused();
+        }
+        if b[0] != 0x20 {
+            return RegisterFile::refused();
+        }
+        if laws::u32_at(b, 1) < 131072 {
+            let file = RegisterFile::parse(b);
+            FileAnswer {
+                number: 0,
+                file: file,
+            }
+        } else {
+            RegisterFile::refused()
+        }
+    }
+
+    fn refused() -> FileAnswer
+        ensures { λ r. ⌜ r ≡ refusedFile ⌝ }
+    {
+        let file = RegisterFile {
+            values: [0; 17],
+            known: 0,
+        };
+        FileAnswer {
+            number: 3,
+            file: file,
+        }
+    }
+
+    fn parse(b: &[u8]) -> RegisterFile
+        requires { ⌜ length (now b) ≡ 141 ⌝ }
+        ensures { λ r. ⌜ r ≡ fileOf (now (b .entry)) ⌝ }
+    {
+        let known = laws::u32_at(b, 1);
+        let values = [
+            laws::u64_at(b, 5),
+            laws::u64_at(b, 13),
+            laws::u64_at(b, 21),
+            laws::u64_at(b, 29),
+            laws::u64_at(b, 37),
+            laws::u64_at(b, 45),
+            laws::u64_at(b, 53),
+            laws::u64_at(b, 61),
+            laws::u64_at(b, 69),
+            laws::u64_at(b, 77),
+            laws::u64_at(b, 85),
+            laws::u64_at(b, 93),
+            laws::u64_at(b, 101),
+            laws::u64_at(b, 109),
+            laws::u64_at(b, 117),
+            laws::u64_at(b, 125),
+            laws::u64_at(b, 133),
+        ];
+        RegisterFile {
+            values: values,
+            known: known,
+        }
+    }
+
     // The value of one of the seventeen, where it is known.
     pub fn slot(self, k: u8) -> Value
         ensures { λ r. ⌜ r ≡ slotOf self k ⌝ }

@@ -1,8 +1,6 @@
 use borrow.Author.Needs.{needs}
 use Rattle.registers.proofs.part.Statement.{statement}
 use Rattle.registers.proofs.part.Tie as tie
-use Rattle.registers.proofs.part.Reads as reads
-use Rattle.registers.proofs.part.Lts as lts
 
 enum-known-v : tie.Need-enum-known-v
 enum-known-v c = search needs

@@ -4,8 +4,6 @@ use mathlib.Core.Path.{ap}
 use borrow.Author.Needs.{needs}
 use Rattle.registers.proofs.whole.Statement.{statement}
 use Rattle.registers.proofs.whole.Tie as tie
-use Rattle.registers.proofs.whole.Reads as reads
-use Rattle.registers.proofs.whole.Lts as lts
 
 enum-known-v : tie.Need-enum-known-v
 enum-known-v c = search needs

@@ -5,8 +5,6 @@ use Prim.Native.Nat.{zero-le}
 use borrow.Author.Needs.{needs}
 use Rattle.registers.proofs.RegSpec.is_logged.Statement.{statement}
 use Rattle.registers.proofs.RegSpec.is_logged.Tie as tie
-use Rattle.registers.proofs.RegSpec.is_logged.Reads as reads
-use Rattle.registers.proofs.RegSpec.is_logged.Lts as lts
 
 array-read-result : tie.Need-array-read-result
 array-read-result c = search needs

@@ -3,8 +3,6 @@ use lib.ListN.{List·getD-eq-default}
 use borrow.Author.Needs.{needs}
 use Rattle.registers.proofs.RegSpec.width.Statement.{statement}
 use Rattle.registers.proofs.RegSpec.width.Tie as tie
-use Rattle.registers.proofs.RegSpec.width.Reads as reads
-use Rattle.registers.proofs.RegSpec.width.Lts as lts
 
 cast-b : tie.Need-cast-b
 cast-b c = search needs

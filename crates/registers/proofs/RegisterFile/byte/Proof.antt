@@ -3,14 +3,10 @@ use Rattle.registers.proofs.Parts.{unplaced}
 use Rattle.registers.specs.Files.{partOf, readPart, valueOf}
 use Rattle.registers.specs.Banks.{isRegister}
 use native.Mathlib.Omega.{arith}
-use borrow.Author.Tests.{lt-ltb, le-ltb, eq-eqb, ne-eqb}
+use borrow.Author.Tests.{lt-ltb, le-ltb}
 use borrow.Author.Needs.{needs}
 use Rattle.registers.proofs.RegisterFile.byte.Statement.{statement}
 use Rattle.registers.proofs.RegisterFile.byte.Tie as tie
-use Rattle.registers.proofs.RegisterFile.byte.Reads as reads
-use Rattle.registers.proofs.RegisterFile.byte.Lts as lts
-use Rattle.registers.proofs.RegisterFile.slot.Reads as slot-reads
-use Rattle.registers.proofs.part.Reads as part-reads
 
 slot-requires : tie.Need-slot-requires
 slot-requires c κs = search needs

@@ -2,9 +2,6 @@ use borrow.Author.Tests.{lt-ltb, le-ltb}
 use borrow.Author.Needs.{needs}
 use Rattle.registers.proofs.RegisterFile.pointer.Statement.{statement}
 use Rattle.registers.proofs.RegisterFile.pointer.Tie as tie
-use Rattle.registers.proofs.RegisterFile.pointer.Reads as reads
-use Rattle.registers.proofs.RegisterFile.pointer.Lts as lts
-use Rattle.registers.proofs.RegisterFile.slot.Reads as slot-reads
 
 slot-requires : tie.Need-slot-requires
 slot-requires c κs = search needs

@@ -4,8 +4,6 @@ use Rattle.registers.specs.Files.{slotOf}
 use borrow.Author.Needs.{needs}
 use Rattle.registers.proofs.RegisterFile.slot.Statement.{statement}
 use Rattle.registers.proofs.RegisterFile.slot.Tie as tie
-use Rattle.registers.proofs.RegisterFile.slot.Reads as reads
-use Rattle.registers.proofs.RegisterFile.slot.Lts as lts
 
 shr-if2 : tie.Need-shr-if2
 shr-if2 c = search needs

@@ -1,5 +1,5 @@
 use lib.ListN.{getD}
-use mathlib.Core.Path.{_≡_, refl, sym, _∙_}
+use mathlib.Core.Path.{_≡_, refl, _∙_}
 use mathlib.Core.Logic.{inl, inr}
 use lib.Dec.{ltb}
 use Rattle.laws.proofs.Span.{others}
@@ -9,13 +9,6 @@ use Rattle.registers.proofs.Parts.{numbered, unplaced}
 use borrow.Author.Needs.{needs}
 use Rattle.registers.proofs.RegisterFile.value.Statement.{statement}
 use Rattle.registers.proofs.RegisterFile.value.Tie as tie
-use Rattle.registers.proofs.RegisterFile.value.Reads as reads
-use Rattle.registers.proofs.RegisterFile.value.Lts as lts
-use Rattle.registers.proofs.RegisterFile.byte.Reads as byte-reads
-use Rattle.registers.proofs.RegisterFile.general.Reads as general-reads
-use Rattle.registers.proofs.RegisterFile.pointer.Reads as pointer-reads
-use Rattle.registers.proofs.part.Reads as part-reads
-use Rattle.registers.proofs.whole.Reads as whole-reads
 
 general-requires : tie.Need-general-requires
 general-requires c κs = search needs
