@@ -1,3 +1,4 @@
 pub mod Accesses
 pub mod Privileges
+pub mod Fields
 pub mod Exceptions

@@ -1,4 +1,7 @@
 // How operands are used, which privilege an instruction needs, and which exceptions it may raise.
+mod accesses;
+mod exceptions;
+mod privileges;
 
 // How an operand is used.
 pub enum Access {

@@ -1,18 +1,12 @@
 -- The behavior digest: `behavior` has bits 0-1 privilege, 2-3 flags access, 4 nontrivial, 5 complex, and 6-7 ignored; `operands` has
 -- two bits of access for each operand, lowest first; `extra` is the number of the implicit list.
-use Prim.Native.Nat.{ℕ, _+_, _*_, _^_, _/_, _%_}
+use Prim.Native.Nat.{ℕ, _^_}
 use mathlib.Core.Bool.{Bool, cond}
 use lib.Dec.{ltb}
 use Rattle.laws.specs.Words.{bit}
+use Rattle.access.specs.Fields.{fieldAt, withField}
 use Rattle.digest.specs.declared.BehaviorDigest.{BehaviorDigest}
 use Rattle.digest.specs.declared.DigestAnswer.{DigestAnswer}
-
--- a field of `width` values at a place that is a power of two: read, and set to v
-abbrev pub fieldAt : ℕ → ℕ → ℕ → ℕ
-fieldAt x place width = x / place % width
-
-abbrev pub withField : ℕ → ℕ → ℕ → ℕ → ℕ
-withField x place width v = x / (place * width) * (place * width) + v * place + x % place
 
 abbrev pub emptyDigest : BehaviorDigest
 emptyDigest = record { behavior = 0; operands = 0; extra = 0 }
@@ -23,6 +17,7 @@ privilegeOf d = fieldAt (d .behavior) 1 4
 abbrev pub flagsAccess : BehaviorDigest → ℕ
 flagsAccess d = fieldAt (d .behavior) 4 4
 
+-- the access of an operand: 0 for every operand above 3, since `operands` is a byte
 abbrev pub accessAt : BehaviorDigest → ℕ → ℕ
 accessAt d i = fieldAt (d .operands) (4 ^ i) 4
 
@@ -55,12 +50,17 @@ withAccess i a d =
 unfoldable pub withList : ℕ → BehaviorDigest → BehaviorDigest
 withList l d = record { behavior = d .behavior; operands = d .operands; extra = l }
 
--- a setter's answer: a refusal where the test fails, and then every other number is 0
-abbrev pub answered : Bool → BehaviorDigest → DigestAnswer
-answered bad d = cond bad (record { number = 2; digest = emptyDigest }) (record { number = 0; digest = d })
+-- a setter's answers: the digest, or the refusal 2, and then every other number is 0
+abbrev pub taken : BehaviorDigest → DigestAnswer
+taken d = record { number = 0; digest = d }
 
+abbrev pub refused : DigestAnswer
+refused = record { number = 2; digest = emptyDigest }
+
+-- an operand above 3 is refused
 unfoldable pub operandAnswer : ℕ → ℕ → BehaviorDigest → DigestAnswer
-operandAnswer i a d = answered (ltb 3 i) (withAccess i a d)
+operandAnswer i a d = cond (ltb 3 i) refused (taken (withAccess i a d))
 
+-- a list above 28 is refused
 unfoldable pub listAnswer : ℕ → BehaviorDigest → DigestAnswer
-listAnswer l d = answered (ltb 28 l) (withList l d)
+listAnswer l d = cond (ltb 28 l) refused (taken (withList l d))

@@ -1,4 +1,14 @@
 // The behavior digest of an instruction: privilege, flags access, operand accesses and the implicit list, in 32 bits.
+ghost use mathlib.Core.Path.{_≡_};
+ghost use mathlib.Core.Bool.{cond};
+ghost use Prim.Native.Nat.{_<_};
+ghost use Rattle.access.specs.Accesses.{accessNumber};
+ghost use Rattle.access.specs.Privileges.{levelNumber};
+ghost use Rattle.digest.specs.Digests.{emptyDigest, privilegeOf, flagsAccess, accessAt, isNontrivial, isComplex};
+ghost use Rattle.digest.specs.Digests.{withPrivilege, withFlags, withNontrivial, withComplex, withAccess, withList};
+ghost use Rattle.digest.specs.Digests.{taken, refused, operandAnswer, listAnswer};
+use access::Access;
+use access::PrivilegeLevel;
 
 // The fields are those of document 01: `behavior`, `operand_access` and `extra`.
 pub struct BehaviorDigest {
@@ -11,4 +21,168 @@ pub struct BehaviorDigest {
 pub struct DigestAnswer {
     pub number: u8,
     pub digest: BehaviorDigest,
+}
+
+// An access and a state as numbers, with the bounds that the sums below rest on.
+fn two_bits(access: Access) -> u8
+    ensures { λ r. ⌜ (r ≡ accessNumber access) × (r < 4) ⌝ }
+{
+    access.to_bits()
+}
+
+fn one_bit(state: bool) -> u8
+    ensures { λ r. ⌜ (r ≡ cond state 1 0) × (r < 2) ⌝ }
+{
+    if state { 1 } else { 0 }
+}
+
+// An operand or a list that there is not.
+fn refused_answer() -> DigestAnswer
+    ensures { λ r. ⌜ r ≡ refused ⌝ }
+{
+    DigestAnswer {
+        number: 2,
+        digest: BehaviorDigest::empty(),
+    }
+}
+
+impl BehaviorDigest {
+    pub fn empty() -> BehaviorDigest
+        ensures { λ r. ⌜ r ≡ emptyDigest ⌝ }
+    {
+        BehaviorDigest {
+            behavior: 0,
+            operands: 0,
+            extra: 0,
+        }
+    }
+
+    fn set_privilege(mut self, level: u8) -> BehaviorDigest
+        requires { ⌜ level < 4 ⌝ }
+        ensures { λ r. ⌜ r ≡ withPrivilege level self ⌝ }
+    {
+        self.behavior = self.behavior / 4 * 4 + level;
+        self
+    }
+
+    pub fn set_pl0(self) -> BehaviorDigest
+        ensures { λ r. ⌜ r ≡ withPrivilege 1 self ⌝ }
+    {
+        self.set_privilege(1)
+    }
+
+    pub fn set_pl_any(self) -> BehaviorDigest
+        ensures { λ r. ⌜ r ≡ withPrivilege 0 self ⌝ }
+    {
+        self.set_privilege(0)
+    }
+
+    pub fn set_pl_special(self) -> BehaviorDigest
+        ensures { λ r. ⌜ r ≡ withPrivilege 2 self ⌝ }
+    {
+        self.set_privilege(2)
+    }
+
+    pub fn privilege_level(self) -> PrivilegeLevel
+        ensures { λ r. ⌜ levelNumber r ≡ privilegeOf self ⌝ }
+    {
+        PrivilegeLevel::from_bits(self.behavior)
+    }
+
+    pub fn set_flags_access(mut self, access: Access) -> BehaviorDigest
+        ensures { λ r. ⌜ r ≡ withFlags (accessNumber access) self ⌝ }
+    {
+        let b = self.behavior;
+        self.behavior = b / 16 * 16 + two_bits(access) * 4 + b % 4;
+        self
+    }
+
+    pub fn flags_access(self) -> Access
+        ensures { λ r. ⌜ accessNumber r ≡ flagsAccess self ⌝ }
+    {
+        Access::from_bits(self.behavior / 4)
+    }
+
+    fn with_operands(mut self, operands: u8) -> DigestAnswer
+        ensures { λ r. ⌜ r ≡ taken (record { behavior = self .behavior; operands = operands; extra = self .extra }) ⌝ }
+    {
+        self.operands = operands;
+        DigestAnswer {
+            number: 0,
+            digest: self,
+        }
+    }
+
+    // An operand above 3 is refused 2.
+    pub fn set_operand(mut self, operand: u8, access: Access) -> DigestAnswer
+        ensures { λ r. ⌜ r ≡ operandAnswer operand (accessNumber access) self ⌝ }
+    {
+        let a = two_bits(access);
+        let x = self.operands;
+        match operand {
+            0 => self.with_operands(x / 4 * 4 + a),
+            1 => self.with_operands(x / 16 * 16 + a * 4 + x % 4),
+            2 => self.with_operands(x / 64 * 64 + a * 16 + x % 16),
+            3 => self.with_operands(a * 64 + x % 64),
+            _ => refused_answer(),
+        }
+    }
+
+    // No access for an operand above 3: there is none.
+    pub fn operand_access(self, operand: u8) -> Access
+        ensures { λ r. ⌜ accessNumber r ≡ accessAt self operand ⌝ }
+    {
+        if 3 < operand {
+            return Access::None;
+        }
+        Access::from_bits(self.operands >> (operand * 2))
+    }
+
+    // A list above 28 is refused 2.
+    pub fn set_implicit_ops(mut self, list: u16) -> DigestAnswer
+        ensures { λ r. ⌜ r ≡ listAnswer list self ⌝ }
+    {
+        if 28 < list {
+            return refused_answer();
+        }
+        self.extra = list;
+        DigestAnswer {
+            number: 0,
+            digest: self,
+        }
+    }
+
+    pub fn implicit_list(self) -> u16
+        ensures { λ r. ⌜ r ≡ self .extra ⌝ }
+    {
+        self.extra
+    }
+
+    pub fn set_nontrivial(mut self, state: bool) -> BehaviorDigest
+        ensures { λ r. ⌜ r ≡ withNontrivial state self ⌝ }
+    {
+        let b = self.behavior;
+        self.behavior = b / 32 * 32 + one_bit(state) * 16 + b % 16;
+        self
+    }
+
+    pub fn is_nontrivial(self) -> bool
+        ensures { λ r. ⌜ r ≡ isNontrivial self ⌝ }
+    {
+        self.behavior / 16 % 2 == 1
+    }
+
+    pub fn set_complex(mut self, state: bool) -> BehaviorDigest
+        ensures { λ r. ⌜ r ≡ withComplex state self ⌝ }
+    {
+        let b = self.behavior;
+        self.behavior = b / 64 * 64 + one_bit(state) * 32 + b % 32;
+        self
+    }
+
+    pub fn is_complex(self) -> bool
+        ensures { λ r. ⌜ r ≡ isComplex self ⌝ }
+    {
+        self.behavior / 32 % 2 == 1
+    }
 }

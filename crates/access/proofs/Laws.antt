@@ -1,0 +1,64 @@
+-- Facts for callers: accesses and levels are two bits and are told apart by their numbers, and what the calls on a set of vectors
+-- answer at a vector that there is. Assumes nothing.
+use Prim.Native.Nat.{ℕ, _≤_, _<_}
+use mathlib.Core.Path.{_≡_, refl, sym, ap, _∙_}
+use mathlib.Core.Bool.{Bool}
+use mathlib.Core.List.{[], _∷_}
+use lib.ListN.{getD}
+use lib.Dec.{lit<}
+use borrow.Author.Tests.{le-ltb}
+use Rattle.laws.specs.Words.{bit}
+use Rattle.access.specs.Accesses.{accessNumber}
+use Rattle.access.specs.Privileges.{levelNumber}
+use Rattle.access.specs.Exceptions.{infoOf, withBit, setOf, mayOf}
+use Rattle.access.specs.declared.Access.{Access}
+use Rattle.access.specs.declared.Access.the-variants.{None, Read, Write, ReadWrite}
+use Rattle.access.specs.declared.PrivilegeLevel.{PrivilegeLevel}
+use Rattle.access.specs.declared.PrivilegeLevel.the-variants.{Any, PL0, Special, Reserved}
+use Rattle.access.specs.declared.ExceptionInfo.{ExceptionInfo}
+
+pub access-lt : (a : Access) → accessNumber a < 4
+access-lt None = lit< tt
+access-lt Read = lit< tt
+access-lt Write = lit< tt
+access-lt ReadWrite = lit< tt
+
+pub level-lt : (l : PrivilegeLevel) → levelNumber l < 4
+level-lt Any = lit< tt
+level-lt PL0 = lit< tt
+level-lt Special = lit< tt
+level-lt Reserved = lit< tt
+
+abbrev accessOf : ℕ → Access
+accessOf n = getD (None ∷ Read ∷ Write ∷ []) n ReadWrite
+
+access-back : (a : Access) → accessOf (accessNumber a) ≡ a
+access-back None = refl
+access-back Read = refl
+access-back Write = refl
+access-back ReadWrite = refl
+
+-- a number is that of one access alone
+pub access-one : (a b : Access) → accessNumber a ≡ accessNumber b → a ≡ b
+access-one a b e = sym (access-back a) ∙ ap accessOf e ∙ access-back b
+
+abbrev levelOf : ℕ → PrivilegeLevel
+levelOf n = getD (Any ∷ PL0 ∷ Special ∷ []) n Reserved
+
+level-back : (l : PrivilegeLevel) → levelOf (levelNumber l) ≡ l
+level-back Any = refl
+level-back PL0 = refl
+level-back Special = refl
+level-back Reserved = refl
+
+pub level-one : (a b : PrivilegeLevel) → levelNumber a ≡ levelNumber b → a ≡ b
+level-one a b e = sym (level-back a) ∙ ap levelOf e ∙ level-back b
+
+module _ (i : ExceptionInfo) (k : ℕ) (h : k ≤ 31) where
+  pub set-taken : (b : Bool) → setOf i k b ≡ record { number = 0; info = infoOf (withBit (i .vectors) k b) }
+  unfolding setOf
+  set-taken b = rw (le-ltb 31 k h)
+
+  pub may-taken : mayOf i k ≡ record { number = 0; may = bit (i .vectors) k }
+  unfolding mayOf
+  may-taken = rw (le-ltb 31 k h)
