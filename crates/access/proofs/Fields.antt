@@ -1,5 +1,5 @@
 -- What setting a field of a number leaves: the field holds what was set, and every other field what it held. Assumes nothing.
-use Prim.Native.Nat.{ℕ, suc, _+_, _-_, _*_, _^_, _/_, _%_, _≤_, _<_}
+use Prim.Native.Nat.{ℕ, suc, _+_, _-_, _*_, _^_, _/_, _%_, _<_}
 use native.Mathlib.Nat.{add-assoc, add-mul, mul-assoc, mul-comm, mod-lt, div-add-mod', div-div-eq-div-mul, div-lt-iff-lt-mul, one-le-pow, pow-succ', eq-zero-or-pos}
 use native.Mathlib.Omega.{arith}
 use mathlib.Core.Path.{_≡_, sym, ap, subst, _∙_}

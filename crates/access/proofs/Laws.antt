@@ -1,12 +1,12 @@
 -- Facts for callers: accesses and levels are two bits and are told apart by their numbers, and what the calls on a set of vectors
--- answer at a vector that there is. Assumes nothing.
+-- answer at a vector that there is, and at one that there is not. Assumes nothing.
 use Prim.Native.Nat.{ℕ, _≤_, _<_}
 use mathlib.Core.Path.{_≡_, refl, sym, ap, _∙_}
-use mathlib.Core.Bool.{Bool}
+use mathlib.Core.Bool.{Bool, false}
 use mathlib.Core.List.{[], _∷_}
 use lib.ListN.{getD}
 use lib.Dec.{lit<}
-use borrow.Author.Tests.{le-ltb}
+use borrow.Author.Tests.{lt-ltb, le-ltb}
 use Rattle.laws.specs.Words.{bit}
 use Rattle.access.specs.Accesses.{accessNumber}
 use Rattle.access.specs.Privileges.{levelNumber}
@@ -54,11 +54,19 @@ level-back Reserved = refl
 pub level-one : (a b : PrivilegeLevel) → levelNumber a ≡ levelNumber b → a ≡ b
 level-one a b e = sym (level-back a) ∙ ap levelOf e ∙ level-back b
 
-module _ (i : ExceptionInfo) (k : ℕ) (h : k ≤ 31) where
-  pub set-taken : (b : Bool) → setOf i k b ≡ record { number = 0; info = infoOf (withBit (i .vectors) k b) }
+module _ (i : ExceptionInfo) (k : ℕ) where
+  pub set-taken : (b : Bool) → k ≤ 31 → setOf i k b ≡ record { number = 0; info = infoOf (withBit (i .vectors) k b) }
   unfolding setOf
-  set-taken b = rw (le-ltb 31 k h)
+  set-taken b h = rw (le-ltb 31 k h)
 
-  pub may-taken : mayOf i k ≡ record { number = 0; may = bit (i .vectors) k }
+  pub set-refused : (b : Bool) → 31 < k → setOf i k b ≡ record { number = 2; info = infoOf 0 }
+  unfolding setOf
+  set-refused b h = rw (lt-ltb 31 k h)
+
+  pub may-taken : k ≤ 31 → mayOf i k ≡ record { number = 0; may = bit (i .vectors) k }
   unfolding mayOf
-  may-taken = rw (le-ltb 31 k h)
+  may-taken h = rw (le-ltb 31 k h)
+
+  pub may-refused : 31 < k → mayOf i k ≡ record { number = 2; may = false }
+  unfolding mayOf
+  may-refused h = rw (lt-ltb 31 k h)

@@ -7,6 +7,9 @@ use crate::ExceptionInfo;
 use crate::InfoAnswer;
 use crate::MayAnswer;
 
+// A set has 32 bits.
+const LAST_VECTOR: u32 = 31;
+
 // Named as in the Intel manual's table of protected-mode exceptions, where 9 and 15 are reserved.
 impl Exception {
     // Divide Error
@@ -97,7 +100,7 @@ impl ExceptionInfo {
         ensures { λ r. ⌜ r ≡ mayOf self (e .vector) ⌝ }
     {
         let k = e.vector as u32;
-        if 31 < k {
+        if LAST_VECTOR < k {
             return MayAnswer {
                 number: 2,
                 may: false,
@@ -114,7 +117,7 @@ impl ExceptionInfo {
         ensures { λ r. ⌜ r ≡ setOf self (e .vector) b ⌝ }
     {
         let k = e.vector as u32;
-        if 31 < k {
+        if LAST_VECTOR < k {
             return InfoAnswer {
                 number: 2,
                 info: ExceptionInfo::empty(),

@@ -1,4 +1,4 @@
--- The register of a string list's slot as a term: `slotRegisters` of the definition lists its registers.
+-- What a string list logs of a slot, as a term. Its registers are the definition's `slotRegisters`.
 use Prim.Native.Nat.{ℕ}
 use mathlib.Core.Bool.{cond}
 use Rattle.laws.specs.Tests.{isIn}
@@ -10,8 +10,10 @@ use Rattle.definition.specs.Steps.{shapeBase}
 use Rattle.definition.specs.declared.Term.{Term}
 use Rattle.definition.specs.declared.Term.the-variants.{Absent}
 
+-- the base of a spec that a string list may name
 unfoldable pub specTerm : Record → ℕ → Term
 specTerm x s = cond (isIn s stringSpecs) (baseOf x (shapeBase (shapeOf s))) Absent
 
+-- the same for the spec in a slot
 unfoldable pub slotTerm : Record → ℕ → Term
 slotTerm x i = specTerm x (specAt x i)

@@ -6,13 +6,13 @@ use registers::RegSpec;
 ghost use mathlib.Core.Path.{_≡_};
 ghost use Rattle.definition.specs.Tables.{shapeOf};
 
-const RSI: RegSpec = RegSpec { bank: 0, number: 6 };
+pub const RSI: RegSpec = RegSpec { bank: 0, number: 6 };
 
-const RDI: RegSpec = RegSpec { bank: 0, number: 7 };
+pub const RDI: RegSpec = RegSpec { bank: 0, number: 7 };
 
-const ESI: RegSpec = RegSpec { bank: 1, number: 6 };
+pub const ESI: RegSpec = RegSpec { bank: 1, number: 6 };
 
-const EDI: RegSpec = RegSpec { bank: 1, number: 7 };
+pub const EDI: RegSpec = RegSpec { bank: 1, number: 7 };
 
 pub fn shape_of(spec: u8) -> Shape
     ensures { λ r. ⌜ r ≡ shapeOf spec ⌝ }

@@ -33,10 +33,10 @@ fn add_bit(sum: u64, x: u64, bit: u8) -> u64
 pub fn sign_extended(disp: u64) -> u64
     ensures { λ r. ⌜ r ≡ signed32 disp ⌝ }
 {
-    let low = disp % 4294967296;
-    if low < 2147483648 {
+    let low = disp % 0x1_0000_0000;
+    if low < 0x8000_0000 {
         low
     } else {
-        low + 18446744069414584320
+        low + 0xFFFF_FFFF_0000_0000
     }
 }

@@ -5,7 +5,7 @@ ghost use Prim.Native.Nat.{_<_};
 ghost use Rattle.access.specs.Accesses.{accessNumber};
 ghost use Rattle.access.specs.Privileges.{levelNumber};
 ghost use Rattle.digest.specs.Digests.{emptyDigest, privilegeOf, flagsAccess, accessAt, isNontrivial, isComplex};
-ghost use Rattle.digest.specs.Digests.{withPrivilege, withFlags, withNontrivial, withComplex, withAccess, withList};
+ghost use Rattle.digest.specs.Digests.{withPrivilege, withFlags, withNontrivial, withComplex};
 ghost use Rattle.digest.specs.Digests.{taken, refused, operandAnswer, listAnswer};
 use access::Access;
 use access::PrivilegeLevel;
@@ -34,6 +34,15 @@ fn one_bit(state: bool) -> u8
     ensures { λ r. ⌜ (r ≡ cond state 1 0) × (r < 2) ⌝ }
 {
     if state { 1 } else { 0 }
+}
+
+fn taken_answer(digest: BehaviorDigest) -> DigestAnswer
+    ensures { λ r. ⌜ r ≡ taken digest ⌝ }
+{
+    DigestAnswer {
+        number: 0,
+        digest: digest,
+    }
 }
 
 // An operand or a list that there is not.
@@ -103,16 +112,6 @@ impl BehaviorDigest {
         Access::from_bits(self.behavior / 4)
     }
 
-    fn with_operands(mut self, operands: u8) -> DigestAnswer
-        ensures { λ r. ⌜ r ≡ taken (record { behavior = self .behavior; operands = operands; extra = self .extra }) ⌝ }
-    {
-        self.operands = operands;
-        DigestAnswer {
-            number: 0,
-            digest: self,
-        }
-    }
-
     // An operand above 3 is refused 2.
     pub fn set_operand(mut self, operand: u8, access: Access) -> DigestAnswer
         ensures { λ r. ⌜ r ≡ operandAnswer operand (accessNumber access) self ⌝ }
@@ -120,10 +119,22 @@ impl BehaviorDigest {
         let a = two_bits(access);
         let x = self.operands;
         match operand {
-            0 => self.with_operands(x / 4 * 4 + a),
-            1 => self.with_operands(x / 16 * 16 + a * 4 + x % 4),
-            2 => self.with_operands(x / 64 * 64 + a * 16 + x % 16),
-            3 => self.with_operands(a * 64 + x % 64),
+            0 => {
+                self.operands = x / 4 * 4 + a;
+                taken_answer(self)
+            }
+            1 => {
+                self.operands = x / 16 * 16 + a * 4 + x % 4;
+                taken_answer(self)
+            }
+            2 => {
+                self.operands = x / 64 * 64 + a * 16 + x % 16;
+                taken_answer(self)
+            }
+            3 => {
+                self.operands = a * 64 + x % 64;
+                taken_answer(self)
+            }
             _ => refused_answer(),
         }
     }
@@ -146,10 +157,7 @@ impl BehaviorDigest {
             return refused_answer();
         }
         self.extra = list;
-        DigestAnswer {
-            number: 0,
-            digest: self,
-        }
+        taken_answer(self)
     }
 
     pub fn implicit_list(self) -> u16

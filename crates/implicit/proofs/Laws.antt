@@ -5,21 +5,31 @@ use native.Mathlib.Numerals.{add-one}
 use native.Mathlib.Omega.{arith}
 use borrow.Author.Tests.{leb-true, leb-false, not-true}
 use mathlib.Core.Path.{_≡_, refl, sym, ap, _∙_}
+use mathlib.Core.Logic.{_⊎_, ⊎-elim}
 use mathlib.Core.Bool.{Bool, true, false, not}
 use mathlib.Core.List.{List, [], _∷_}
 use lib.Dec.{leb, leb·zero, leb·suc-zero, leb·suc-suc}
 use lib.ListN.{length, getD, drop, drop-of-length-le, List·getD-eq-default}
 use lib.Seq.{drop-cons}
+use denote.Enum.Declared.{tagOf}
 use Rattle.laws.specs.Tests.{any}
+use Rattle.laws.specs.Lists.{each, flat}
 use Rattle.laws.proofs.Every.{Every, any-false, at}
 use Rattle.implicit.specs.declared.Entry.{Entry}
 use Rattle.implicit.specs.declared.Entry.the-variants.{Operand, Slot, End}
+use Rattle.implicit.proofs.Entry.{the-type}
 use Rattle.implicit.specs.Lists.{implicits, implicitOf, entryAt}
 
 abbrev pub isEnd : Entry → Bool
 isEnd (Operand o way) = false
 isEnd (Slot n way) = false
 isEnd End = true
+
+-- what a match on an entry knows where it is not `End`
+pub told-by-tag : (e : Entry) → (tagOf the-type e ≡ 0) ⊎ (tagOf the-type e ≡ 1) → isEnd e ≡ false
+told-by-tag (Operand o way) t = refl
+told-by-tag (Slot n way) t = refl
+told-by-tag End t = absurd (⊎-elim (λ e. omega arith) (λ e. omega arith) t)
 
 told : (e : Entry) → (e ≡ End → ⊥) → isEnd e ≡ false
 told (Operand o way) ne = refl
@@ -87,3 +97,21 @@ step-on l i ne = step l i refl (told (entryAt l i) ne)
 
 pub stop : (l i : ℕ) → entryAt l i ≡ End → drop i (implicitOf l) ≡ []
 stop l i p = drop-of-length-le (implicitOf l) (end-past l i p)
+
+-- the whole list by its four places, for what says nothing of an `End`
+four-places :
+    {B : Type 0} (f : Entry → List B) → f End ≡ [] → (es : List Entry) → length es ≤ 4
+    → flat (f (getD es 0 End) ∷ f (getD es 1 End) ∷ f (getD es 2 End) ∷ f (getD es 3 End) ∷ []) ≡ each f es
+unfolding each flat
+four-places f z [] h = simp z
+four-places f z (a ∷ []) h = simp z
+four-places f z (a ∷ b ∷ []) h = simp z
+four-places f z (a ∷ b ∷ c ∷ []) h = simp z
+four-places f z (a ∷ b ∷ c ∷ d ∷ []) h = refl
+four-places f z (a ∷ b ∷ c ∷ d ∷ e ∷ es) h = absurd (omega arith)
+
+pub unrolled :
+    {B : Type 0} (f : Entry → List B) → f End ≡ [] → (l : ℕ)
+    → flat (f (entryAt l 0) ∷ f (entryAt l 1) ∷ f (entryAt l 2) ∷ f (entryAt l 3) ∷ []) ≡ each f (implicitOf l)
+unfolding entryAt
+unrolled f z l = four-places f z (implicitOf l) (at-most-four l)

@@ -1,7 +1,6 @@
 // The operands that an instruction has without naming them: the lists 0 to 28.
 use registers::RegSpec;
 ghost use mathlib.Core.Path.{_≡_};
-ghost use Prim.Native.Nat.{_<_};
 ghost use Rattle.laws.specs.Tests.{any};
 ghost use Rattle.implicit.specs.Codes.{entryOf, rowOf};
 ghost use Rattle.implicit.specs.Lists.{implicitOf, entryAt};

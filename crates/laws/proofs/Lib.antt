@@ -5,3 +5,4 @@ pub mod Span
 pub mod Choice
 pub mod Numbers
 pub mod Bits
+pub mod Keys

@@ -2,15 +2,11 @@
 use mathlib.Core.Path.{sym, _∙_}
 use native.Mathlib.Omega.{arith}
 use borrow.Author.Needs.{needs}
-use Rattle.implicit.specs.Codes.{entryOf, codeIn}
+use Rattle.implicit.specs.Codes.{codeIn}
 use Rattle.implicit.proofs.Laws.{at-most-four, past-last}
 use Rattle.implicit.proofs.Table.{rows-right}
 use Rattle.implicit.proofs.implicit_entry.Statement.{statement}
 use Rattle.implicit.proofs.implicit_entry.Tie as tie
-use Rattle.implicit.proofs.implicit_entry.Reads as reads
-use Rattle.implicit.proofs.implicit_entry.Lts as lts
-use Rattle.implicit.proofs.entry_of.Reads as entry-of-reads
-use Rattle.implicit.proofs.row_of.Reads as row-of-reads
 
 returns : tie.Need-returns
 returns c =

@@ -14,7 +14,7 @@ shr-result c = search needs
 
 returns : tie.Need-returns
 unfolding any bit
-returns c = bits-right 0x1F018000 refl (c .before .args .list) (search needs)
+returns c = bits-right _ refl (c .before .args .list) (search needs)
 
 returns-2 : tie.Need-returns-2
 unfolding any

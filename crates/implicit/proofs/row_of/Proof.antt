@@ -1,9 +1,8 @@
 -- The arms are the rows of the table. Assumes nothing.
 use mathlib.Core.Path.{sym}
-use mathlib.Core.List.{map}
 use lib.ListN.{drop}
 use Rattle.implicit.specs.Codes.{rows}
-use Rattle.implicit.proofs.Keys.{otherwise}
+use Rattle.laws.proofs.Keys.{otherwise}
 use Rattle.implicit.proofs.row_of.Statement.{statement}
 use Rattle.implicit.proofs.row_of.Tie as tie
 

@@ -1,4 +1,4 @@
--- `BehaviorDigest::operand_access` meets its contract: a byte has no field above the third, and a shift by twice the operand takes the field. Assumes nothing.
+-- `BehaviorDigest::operand_access` meets its contract: a byte has no field above field 3, and a shift by twice the operand takes the field. Assumes nothing.
 use borrow.Author.Needs.{needs}
 use Prim.Native.Nat.{ℕ, _*_, _/_, _%_, _^_, _≤_, zero-le}
 use native.Mathlib.Omega.{arith}
@@ -12,7 +12,7 @@ shift : (i : ℕ) → i ≤ 3 → 2 ^ (i * 2) ≡ 4 ^ i
 shift i h = span (λ (k : ℕ). 2 ^ (k * 2) ≡ 4 ^ k) 0 4 (refl, (refl, (refl, (refl, tt)))) i zero-le (omega arith)
 
 returns : tie.Need-returns
-returns c = sym (access-none (c .before .args .self) (c .before .args .operand) (search needs) (c .if1 .taken))
+returns c = sym (access-none (c .before .args .self) (c .before .args .operand) (search needs) (omega arith))
 
 mul-from-bits : tie.Need-mul-from-bits
 mul-from-bits c = search needs
@@ -26,7 +26,7 @@ from-bits-requires c κs = search needs
 returns-2 : tie.Need-returns-2
 returns-2 c =
     let a = c .before .before .before .args in
-    c .from-bits .ensures ∙ ap (λ (n : ℕ). a .self .operands / n % 4) (shift (a .operand) (c .before .before .if1 .left))
+    c .from-bits .ensures ∙ ap (λ (n : ℕ). a .self .operands / n % 4) (shift (a .operand) (omega arith))
 
 pub operand-access-spec : {M : Type 1} → statement M
 operand-access-spec =

@@ -1,5 +1,6 @@
 -- `BehaviorDigest::set_implicit_ops` meets its contract: a refusal above 28, and else the list. Assumes nothing.
 use borrow.Author.Needs.{needs}
+use native.Mathlib.Omega.{arith}
 use mathlib.Core.Path.{sym, _∙_}
 use Rattle.digest.specs.Digests.{withList}
 use Rattle.digest.proofs.Laws.{list-taken, list-refused}
@@ -10,11 +11,15 @@ refused-answer-requires : tie.Need-refused-answer-requires
 refused-answer-requires c κs = search needs
 
 returns : tie.Need-returns
-returns c = c .refused-answer .ensures ∙ sym (list-refused (c .before .before .args .self) (c .before .before .args .list) (c .before .if1 .taken))
+returns c = c .refused-answer .ensures ∙ sym (list-refused (c .before .before .args .self) (c .before .before .args .list) (omega arith))
+
+taken-answer-requires : tie.Need-taken-answer-requires
+taken-answer-requires c κs = search needs
 
 returns-2 : tie.Need-returns-2
 unfolding withList
-returns-2 c = sym (list-taken (c .before .args .self) (c .before .args .list) (c .if1 .left))
+returns-2 c = c .taken-answer .ensures ∙ sym (list-taken (c .before .before .args .self) (c .before .before .args .list) (omega arith))
 
 pub set-implicit-ops-spec : {M : Type 1} → statement M
-set-implicit-ops-spec = tie.close (tie.spec refused-answer-requires returns returns-2)
+set-implicit-ops-spec =
+    tie.close (tie.spec refused-answer-requires returns taken-answer-requires returns-2)

@@ -11,79 +11,76 @@ use Rattle.digest.proofs.BehaviorDigest.set_operand.Tie as tie
 two-bits-requires : tie.Need-two-bits-requires
 two-bits-requires c κs = search needs
 
-mul-with-operands : tie.Need-mul-with-operands
-mul-with-operands c = search needs
+mul-self : tie.Need-mul-self
+mul-self c = search needs
 
-add-with-operands : tie.Need-add-with-operands
-add-with-operands c = search needs
+add-self : tie.Need-add-self
+add-self c = search needs
 
-with-operands-requires : tie.Need-with-operands-requires
-with-operands-requires c κs = search needs
+taken-answer-requires : tie.Need-taken-answer-requires
+taken-answer-requires c κs = search needs
 
-mul-with-operands-2 : tie.Need-mul-with-operands-2
-mul-with-operands-2 c = search needs
+mul-self-2 : tie.Need-mul-self-2
+mul-self-2 c = search needs
 
-mul-with-operands-3 : tie.Need-mul-with-operands-3
-mul-with-operands-3 c = search needs
+mul-self-3 : tie.Need-mul-self-3
+mul-self-3 c = search needs
 
-add-with-operands-2 : tie.Need-add-with-operands-2
-add-with-operands-2 c = search needs
+add-self-2 : tie.Need-add-self-2
+add-self-2 c = search needs
 
-add-with-operands-3 : tie.Need-add-with-operands-3
-add-with-operands-3 c = search needs
+add-self-3 : tie.Need-add-self-3
+add-self-3 c = search needs
 
-with-operands-requires-2 : tie.Need-with-operands-requires-2
-with-operands-requires-2 c κs = search needs
+taken-answer-requires-2 : tie.Need-taken-answer-requires-2
+taken-answer-requires-2 c κs = search needs
 
-mul-with-operands-4 : tie.Need-mul-with-operands-4
-mul-with-operands-4 c = search needs
+mul-self-4 : tie.Need-mul-self-4
+mul-self-4 c = search needs
 
-mul-with-operands-5 : tie.Need-mul-with-operands-5
-mul-with-operands-5 c = search needs
+mul-self-5 : tie.Need-mul-self-5
+mul-self-5 c = search needs
 
-add-with-operands-4 : tie.Need-add-with-operands-4
-add-with-operands-4 c = search needs
+add-self-4 : tie.Need-add-self-4
+add-self-4 c = search needs
 
-add-with-operands-5 : tie.Need-add-with-operands-5
-add-with-operands-5 c = search needs
+add-self-5 : tie.Need-add-self-5
+add-self-5 c = search needs
 
-with-operands-requires-3 : tie.Need-with-operands-requires-3
-with-operands-requires-3 c κs = search needs
+taken-answer-requires-3 : tie.Need-taken-answer-requires-3
+taken-answer-requires-3 c κs = search needs
 
-mul-with-operands-6 : tie.Need-mul-with-operands-6
-mul-with-operands-6 c = search needs
+mul-self-6 : tie.Need-mul-self-6
+mul-self-6 c = search needs
 
-add-with-operands-6 : tie.Need-add-with-operands-6
-add-with-operands-6 c = search needs
+add-self-6 : tie.Need-add-self-6
+add-self-6 c = search needs
 
-with-operands-requires-4 : tie.Need-with-operands-requires-4
-with-operands-requires-4 c κs = search needs
+taken-answer-requires-4 : tie.Need-taken-answer-requires-4
+taken-answer-requires-4 c κs = search needs
 
 refused-answer-requires : tie.Need-refused-answer-requires
 refused-answer-requires c κs = search needs
 
 returns : tie.Need-returns
 unfolding operandAnswer withAccess
-returns c = rw (c .with-operands .ensures, c .before .match .keys1, c .before .before .two-bits .ensures .0, lowest)
+returns c =
+    let a = c .before .before .before .args in
+    rw (c .taken-answer .ensures, c .before .match .keys1, c .before .before .two-bits .ensures .0, lowest (a .self .operands) (accessNumber (a .access)))
 
 returns-2 : tie.Need-returns-2
 unfolding operandAnswer withAccess
-returns-2 c = rw (c .with-operands2 .ensures, c .before .match .keys2, c .before .before .two-bits .ensures .0)
+returns-2 c = rw (c .taken-answer2 .ensures, c .before .match .keys2, c .before .before .two-bits .ensures .0)
 
 returns-3 : tie.Need-returns-3
 unfolding operandAnswer withAccess
-returns-3 c = rw (c .with-operands3 .ensures, c .before .match .keys3, c .before .before .two-bits .ensures .0)
+returns-3 c = rw (c .taken-answer3 .ensures, c .before .match .keys3, c .before .before .two-bits .ensures .0)
 
 returns-4 : tie.Need-returns-4
 unfolding operandAnswer withAccess
 returns-4 c =
     let a = c .before .before .before .args in
-    rw (
-      c .with-operands4 .ensures,
-      c .before .match .keys4,
-      c .before .before .two-bits .ensures .0,
-      highest (a .self .operands) (accessNumber (a .access)) (search needs),
-    )
+    rw (c .taken-answer4 .ensures, c .before .match .keys4, c .before .before .two-bits .ensures .0, highest (a .self .operands) (accessNumber (a .access)) (search needs))
 
 returns-5 : tie.Need-returns-5
 returns-5 c =
@@ -95,22 +92,22 @@ set-operand-spec =
     tie.close
     (tie.spec
     two-bits-requires
-    mul-with-operands
-    add-with-operands
-    with-operands-requires
-    mul-with-operands-2
-    mul-with-operands-3
-    add-with-operands-2
-    add-with-operands-3
-    with-operands-requires-2
-    mul-with-operands-4
-    mul-with-operands-5
-    add-with-operands-4
-    add-with-operands-5
-    with-operands-requires-3
-    mul-with-operands-6
-    add-with-operands-6
-    with-operands-requires-4
+    mul-self
+    add-self
+    taken-answer-requires
+    mul-self-2
+    mul-self-3
+    add-self-2
+    add-self-3
+    taken-answer-requires-2
+    mul-self-4
+    mul-self-5
+    add-self-4
+    add-self-5
+    taken-answer-requires-3
+    mul-self-6
+    add-self-6
+    taken-answer-requires-4
     refused-answer-requires
     returns
     returns-2

@@ -59,7 +59,27 @@ u64-at-requires-17 c κs = search needs
 
 returns : tie.Need-returns
 unfolding fileOf numbersFrom
-returns c = cc
+returns c =
+    rw (
+      c .before .before .before .before .before .before .before .before .before .before .before .before .before .before .before .before .before .u32-at .ensures,
+      c .before .before .before .before .before .before .before .before .before .before .before .before .before .before .before .before .u64-at .ensures,
+      c .before .before .before .before .before .before .before .before .before .before .before .before .before .before .before .u64-at2 .ensures,
+      c .before .before .before .before .before .before .before .before .before .before .before .before .before .before .u64-at3 .ensures,
+      c .before .before .before .before .before .before .before .before .before .before .before .before .before .u64-at4 .ensures,
+      c .before .before .before .before .before .before .before .before .before .before .before .before .u64-at5 .ensures,
+      c .before .before .before .before .before .before .before .before .before .before .before .u64-at6 .ensures,
+      c .before .before .before .before .before .before .before .before .before .before .u64-at7 .ensures,
+      c .before .before .before .before .before .before .before .before .before .u64-at8 .ensures,
+      c .before .before .before .before .before .before .before .before .u64-at9 .ensures,
+      c .before .before .before .before .before .before .before .u64-at10 .ensures,
+      c .before .before .before .before .before .before .u64-at11 .ensures,
+      c .before .before .before .before .before .u64-at12 .ensures,
+      c .before .before .before .before .u64-at13 .ensures,
+      c .before .before .before .u64-at14 .ensures,
+      c .before .before .u64-at15 .ensures,
+      c .before .u64-at16 .ensures,
+      c .u64-at17 .ensures,
+    )
 
 pub parse-spec : {M : Type 1} → statement M
 parse-spec =

@@ -1,0 +1,98 @@
+/*
+ * Machhurel: which registers and which memory an x86-64 instruction touched, in order.
+ *
+ * Every call takes bytes and answers one 64-bit number. Any bytes at any length get an answer: no call fails, traps, allocates or keeps
+ * anything, and calls may run on any thread at once as long as no two write the same buffer. A pointer may be NULL where its length is 0.
+ * Otherwise it points to that many bytes, and a buffer that is written overlaps no other argument.
+ *
+ * Records are 40 bytes of kind 0x10, register files 141 bytes of kind 0x20; numbers are little-endian.
+ *
+ *   record   0 kind 0x10; 1-2 opcode; 3 operand count; 4-7 specs; 8-15 four registers (bank, number); 16 memory size; 17 scale;
+ *            18-25 displacement; 26-33 immediate; 34 prefix bits; 35 mask register; 36 behavior; 37 operand access; 38-39 list
+ *   file     0 kind 0x20; 1-4 known bits (0-15 rax, rcx, rdx, rbx, rsp, rbp, rsi, rdi, r8 to r15; 16 rip); 5-140 seventeen values.
+ *            rip is that of the next instruction. The file is that before the instruction.
+ *   event    1 register read, 2 register write (bank, number); 3 memory read, 4 memory write (8 address bytes, size);
+ *            5 memory read, 6 memory write at an unknown address (size)
+ *
+ * Refusal numbers, tested in this order; a refused call changes no byte of a buffer, and every other part of its answer is 0:
+ *
+ *   1  the record is not 40 bytes of kind 0x10; in a log: an unknown kind, or an event cut short
+ *   2  a field of the record is outside its table; in a log: a bad register, or a size outside 1 to 64
+ *   3  the file is not 141 bytes of kind 0x20, or a known bit above 16 is set
+ *   4  the instruction is complex: its accesses are not a plain list. The answer carries the opcode
+ *   5  an operand that is accessed names no register or memory, or a string list names no string slot
+ *   6  memory is accessed and the record's memory size is 0
+ *   7  the start lies past the buffer's end, or the buffer has too little room behind it
+ */
+#ifndef MACHHUREL_H
+#define MACHHUREL_H
+
+#include <stddef.h>
+#include <stdint.h>
+
+#ifdef __cplusplus
+extern "C" {
+#endif
+
+/* A log never needs more bytes or events, a listing never more bytes. */
+#define MACHHUREL_LOG_BYTES 177
+#define MACHHUREL_LOG_EVENTS 38
+#define MACHHUREL_LISTING_BYTES 34
+
+#define MACHHUREL_RECORD_BYTES 40
+#define MACHHUREL_FILE_BYTES 141
+
+/* Every answer: the refusal number, 0 for none (for machhurel_event also MACHHUREL_FINISHED). */
+#define MACHHUREL_NUMBER(answer) ((unsigned)((answer) & 0xFF))
+
+/* machhurel_visit, machhurel_listing: the bytes written, and after refusal 4 the opcode. */
+#define MACHHUREL_COUNT(answer) ((uint32_t)((answer) >> 32))
+#define MACHHUREL_OPCODE(answer) ((uint16_t)(((answer) >> 8) & 0xFFFF))
+
+/* machhurel_digest: the digest after fix-ups. */
+#define MACHHUREL_BEHAVIOR(answer) ((uint8_t)(((answer) >> 8) & 0xFF))
+#define MACHHUREL_OPERAND_ACCESS(answer) ((uint8_t)(((answer) >> 16) & 0xFF))
+#define MACHHUREL_LIST(answer) ((uint16_t)(((answer) >> 32) & 0xFFFF))
+
+/* machhurel_privilege: 0 any level, 1 CPL 0 only, 2 special, 3 reserved. */
+#define MACHHUREL_LEVEL(answer) ((unsigned)(((answer) >> 8) & 0xFF))
+
+/* machhurel_exceptions: bit 13 for #GP, bit 14 for #PF. */
+#define MACHHUREL_EXCEPTIONS(answer) ((uint32_t)((answer) >> 32))
+
+/* machhurel_event: there is no event at or past the log's end. */
+#define MACHHUREL_FINISHED 255
+
+/*
+ * Writes the log of the record under the register file into log[start..], and answers its length in MACHHUREL_COUNT. Refuses 1 to 7. With
+ * MACHHUREL_LOG_BYTES of room behind the start it never refuses 7.
+ */
+uint64_t machhurel_visit(const uint8_t *record, size_t record_len, const uint8_t *file, size_t file_len, uint8_t *log, size_t log_len,
+                         size_t start);
+
+/*
+ * Writes the listing of the record's operands into out[start..]: flags, implicit operands, explicit operands, without a register file.
+ * Answers its length in MACHHUREL_COUNT. Refuses 1, 2, 4, 7.
+ */
+uint64_t machhurel_listing(const uint8_t *record, size_t record_len, uint8_t *out, size_t out_len, size_t start);
+
+/* The record's digest after fix-ups. Refuses 1, 2. */
+uint64_t machhurel_digest(const uint8_t *record, size_t record_len);
+
+/* The privilege level that the instruction needs. Refuses 1, 2. */
+uint64_t machhurel_privilege(const uint8_t *record, size_t record_len);
+
+/* The exceptions that the instruction may raise. Refuses 1, 2. */
+uint64_t machhurel_exceptions(const uint8_t *record, size_t record_len);
+
+/*
+ * Looks at the event that stands at log[at..]. Answers its length in MACHHUREL_COUNT, so that the next event stands at `at` plus that;
+ * refuses 1, 2; MACHHUREL_FINISHED where `at` is at or past the end.
+ */
+uint64_t machhurel_event(const uint8_t *log, size_t log_len, size_t at);
+
+#ifdef __cplusplus
+}
+#endif
+
+#endif
