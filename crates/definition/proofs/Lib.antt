@@ -1,1 +1,5 @@
+pub mod Weights
+pub mod Bytes
+pub mod Bounds
+pub mod ListingBound
 pub mod Events

@@ -1,0 +1,9 @@
+pub mod Refinement
+pub mod Calls
+pub mod Rows
+pub mod Bench
+pub mod Beyond
+pub mod Answers
+pub mod Sweeps
+pub mod Fullest
+pub mod Promises
