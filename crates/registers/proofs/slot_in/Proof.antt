@@ -2,17 +2,17 @@ use borrow.Author.Tests.{lt-ltb, le-ltb, eq-eqb, ne-eqb}
 use Rattle.laws.specs.Words.{bit}
 use Rattle.registers.specs.Files.{slotOf}
 use borrow.Author.Needs.{needs}
-use Rattle.registers.proofs.RegisterFile.slot.Statement.{statement}
-use Rattle.registers.proofs.RegisterFile.slot.Tie as tie
+use Rattle.registers.proofs.slot_in.Statement.{statement}
+use Rattle.registers.proofs.slot_in.Tie as tie
 
 shr-if2 : tie.Need-shr-if2
 shr-if2 c = search needs
 
-mul-t13 : tie.Need-mul-t13
-mul-t13 c = search needs
+mul-t12 : tie.Need-mul-t12
+mul-t12 c = search needs
 
-element-copy-out-t16 : tie.Need-element-copy-out-t16
-element-copy-out-t16 c = search needs
+element-copy-out-t15 : tie.Need-element-copy-out-t15
+element-copy-out-t15 c = search needs
 
 returns : tie.Need-returns
 unfolding slotOf bit
@@ -26,5 +26,6 @@ returns-3 : tie.Need-returns-3
 unfolding slotOf bit
 returns-3 c = simp (le-ltb _ _ (c .if1 .left))
 
-pub slot-spec : {M : Type 1} → statement M
-slot-spec = tie.close (tie.spec shr-if2 mul-t13 element-copy-out-t16 returns returns-2 returns-3)
+pub slot-in-spec : {M : Type 1} → statement M
+slot-in-spec =
+    tie.close (tie.spec shr-if2 mul-t12 element-copy-out-t15 returns returns-2 returns-3)
