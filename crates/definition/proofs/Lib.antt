@@ -2,3 +2,4 @@ pub mod Weights
 pub mod Bytes
 pub mod Bounds
 pub mod ListingBound
+pub mod Events
