@@ -21,8 +21,11 @@ unfoldable pub isRegister : ℕ → ℕ → Bool
 isRegister b n = ltb n (getD bankNumbers b 0)
 
 -- what an event of a log may name: the same banks today
+abbrev pub loggedNumbers : List ℕ
+loggedNumbers = bankNumbers
+
 unfoldable pub isLogged : ℕ → ℕ → Bool
-isLogged b n = ltb n (getD bankNumbers b 0)
+isLogged b n = ltb n (getD loggedNumbers b 0)
 
 -- how many bytes a register has
 unfoldable pub widthOf : RegSpec → ℕ

@@ -28,9 +28,12 @@ isFile b = eqb (length b) 141 && eqb (getD b 0 0) 0x20 && ltb (numberAt b 1 4) (
 unfoldable pub noFile : RegisterFile
 noFile = record { values = replicate 17 0; known = 0 }
 
+abbrev pub refusedFile : FileAnswer
+refusedFile = record { number = 3; file = noFile }
+
 -- the file, or refusal 3
 unfoldable pub fileAnswer : List ℕ → FileAnswer
-fileAnswer b = cond (isFile b) (record { number = 0; file = fileOf b }) (record { number = 3; file = noFile })
+fileAnswer b = cond (isFile b) (record { number = 0; file = fileOf b }) refusedFile
 
 -- the part of a full register that a register is: the slot of the file that it lies in, the bits below it, and its own bits
 pub record Part : Type 0 where
@@ -45,23 +48,22 @@ part s b w = record { slot = s; below = b; bits = w }
 abbrev pub nowhere : Part
 nowhere = part 17 0 0
 
--- Q whole, D the low 32 bits, W the low 16, rB and B 0-3 the low 8, B 4-7 bits 8-15 of register number minus 4, RIP, EIP its low 32 bits
-unfoldable pub partOf : RegSpec → Part
-partOf x =
-    cond (isRegister (x .bank) (x .number))
-    (getD
-    (part (x .number) 0 64
-    ∷ part (x .number) 0 32
-    ∷ part (x .number) 0 16
-    ∷ part (x .number) 0 8
-    ∷ cond (ltb (x .number) 4) (part (x .number) 0 8) (part (x .number - 4) 8 8)
+-- by bank, of register n: Q whole, D the low 32 bits, W the low 16, rB and B 0-3 the low 8, B 4-7 bits 8-15 of register number minus 4;
+-- RIP, and EIP its low 32 bits
+abbrev pub bankParts : ℕ → List Part
+bankParts n =
+    part n 0 64
+    ∷ part n 0 32
+    ∷ part n 0 16
+    ∷ part n 0 8
+    ∷ part (cond (ltb n 4) n (n - 4)) (cond (ltb n 4) 0 8) 8
     ∷ nowhere ∷ nowhere ∷ nowhere ∷ nowhere
     ∷ part 16 0 64
     ∷ part 16 0 32
-    ∷ [])
-    (x .bank)
-    nowhere)
-    nowhere
+    ∷ []
+
+unfoldable pub partOf : RegSpec → Part
+partOf x = cond (isRegister (x .bank) (x .number)) (getD (bankParts (x .number)) (x .bank) nowhere) nowhere
 
 -- what a file answers of one of its slots
 unfoldable pub slotOf : RegisterFile → ℕ → Value
@@ -72,6 +74,10 @@ abbrev pub after : Value → (ℕ → Value) → Value
 after (Known v) k = k v
 after Unknown k = Unknown
 
+-- what a file answers of a part: its bits of the slot's value
+unfoldable pub readPart : RegisterFile → Part → Value
+readPart f p = after (slotOf f (p .slot)) (λ v. Known (v / 2 ^ (p .below) % 2 ^ (p .bits)))
+
 -- what a file answers of a register; one that the table has not is unknown
 unfoldable pub valueOf : RegisterFile → RegSpec → Value
-valueOf f x = after (slotOf f (partOf x .slot)) (λ v. Known (v / 2 ^ (partOf x .below) % 2 ^ (partOf x .bits)))
+valueOf f x = readPart f (partOf x)
