@@ -64,9 +64,10 @@ module _ (o : ImplicitOperand) (a : Access) where
       let w = unlogged operandBytes o l in
       let r = operand-room h in
       let room : n + 1 ≤ length old = omega (arith, w .0, one-size operandBytes o) in
-      logged itemBytes (Implicit o a)
-      (rw (operand-length, ← w .0) refl
-      , rw (operand-length, ← w .0, w .1, ← w .0) (stored (operandBytes o) old (accessNumber a) (sym (w .0)) (rw (← add-one n) room)))
+      logged itemBytes (Implicit o a) (
+        rw (operand-length, ← w .0) refl,
+        rw (operand-length, ← w .0, w .1, ← w .0) (stored (operandBytes o) old (accessNumber a) (sym (w .0)) (rw (← add-one n) room)),
+      )
 
 -- a displacement, through the part that is lent on behind three bytes
 pub displaced :

@@ -4,9 +4,8 @@ mod cursor;
 mod items;
 
 pub use call::put_listing;
-pub use items::put_item;
-
 use definition::Item;
+pub use items::put_item;
 
 // A place in the walk, as the Rust's iterator holds it without the record: before the explicit operands, `next` 0 stands at the flags and
 // `next` i + 1 at entry i of the implicit list; among the explicit operands, `next` i stands at operand i.

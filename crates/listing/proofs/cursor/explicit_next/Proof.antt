@@ -1,29 +1,24 @@
+use mathlib.Core.Logic.{inl, inr}
+use mathlib.Core.Path.{sym}
+use Rattle.listing.proofs.Walking.{operand-here, operand-none}
 use borrow.Author.Needs.{needs}
 use Rattle.listing.proofs.cursor.explicit_next.Statement.{statement}
 use Rattle.listing.proofs.cursor.explicit_next.Tie as tie
-use Rattle.listing.proofs.cursor.explicit_next.Reads as reads
-use Rattle.listing.proofs.cursor.explicit_next.Lts as lts
-use Rattle.listing.proofs.cursor.explicit_item.Reads as explicit-item-reads
 
--- src/cursor.rt:102:9
 returns : tie.Need-returns
-returns c = ?
+returns c = let s = c .before .before .args in sym (operand-none (s .x) (s .i) (inl (c .if1 .taken)))
 
--- src/cursor.rt:105:9
 returns-2 : tie.Need-returns-2
-returns-2 c = ?
+returns-2 c = let s = c .before .before .before .args in sym (operand-none (s .x) (s .i) (inr (c .if2 .taken)))
 
--- src/cursor.rt:108:9
 explicit-item-requires : tie.Need-explicit-item-requires
 explicit-item-requires c κs = search needs
 
--- src/cursor.rt:111:19
 add-t5 : tie.Need-add-t5
 add-t5 c = search needs
 
--- src/cursor.rt:98:1
 returns-3 : tie.Need-returns-3
-returns-3 c = ?
+returns-3 c = let s = c .before .before .before .before .args in rw (c .explicit-item .ensures) (sym (operand-here (s .x) (s .i) (c .before .before .if1 .left) (c .before .if2 .left)))
 
 pub explicit-next-spec : {M : Type 1} → statement M
 explicit-next-spec = tie.close (tie.spec returns returns-2 explicit-item-requires add-t5 returns-3)

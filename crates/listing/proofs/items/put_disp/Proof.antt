@@ -27,7 +27,7 @@ same-length c = search needs
 
 returns : tie.Need-returns
 unfolding operandBytes little
-returns c = 
+returns c =
     let s = c .before .before .before .before .before .before .before .before .before .args in
     let w = c .before .before .before .before .before .before .put-register .ensures in
     (refl, displaced (0x44 ∷ s .y .bank ∷ s .y .number ∷ []) (s .d) (s .out .now) refl (w .1) (c .before .before .put-u32 .ensures))
