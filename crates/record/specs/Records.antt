@@ -69,10 +69,13 @@ noRecord =
       digest = emptyDigest;
     }
 
+abbrev pub refusedRecord : ℕ → RecordAnswer
+refusedRecord n = record { number = n; read = noRecord }
+
 -- the record, or the refusal and every other number 0
 unfoldable pub recordAnswer : List ℕ → RecordAnswer
 recordAnswer b =
-    cond (eqb (recordRefusal b) 0) (record { number = 0; read = recordOf b }) (record { number = recordRefusal b; read = noRecord })
+    cond (eqb (recordRefusal b) 0) (record { number = 0; read = recordOf b }) (refusedRecord (recordRefusal b))
 
 -- The parts of a record that the rules ask for
 abbrev pub specAt : Record → ℕ → ℕ

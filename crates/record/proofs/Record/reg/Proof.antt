@@ -1,0 +1,25 @@
+use mathlib.Core.Path.{_≡_, sym}
+use native.Mathlib.Omega.{arith}
+use lib.ListN.{length, length-map, List·getD-eq-default}
+use Rattle.registers.specs.Banks.{reg}
+use borrow.Author.Needs.{needs}
+use Rattle.record.proofs.Record.reg.Statement.{statement}
+use Rattle.record.proofs.Record.reg.Tie as tie
+
+mul-result : tie.Need-mul-result
+mul-result c = search needs
+
+element-copy-out-result : tie.Need-element-copy-out-result
+element-copy-out-result c = search needs
+
+returns : tie.Need-returns
+returns c = search needs
+
+returns-2 : tie.Need-returns-2
+returns-2 c =
+    let regs = c .before .args .t1 .regs in
+    let four : length regs ≡ 4 = simp length-map at (c .before .good .0 .1 .1 .1 .1 .1 .0 .1 .0 .1) in
+    sym (List·getD-eq-default regs (reg 0 0) {n = c .before .args .i} (omega (arith, four)))
+
+pub reg-spec : {M : Type 1} → statement M
+reg-spec = tie.close (tie.spec mul-result element-copy-out-result returns returns-2)
