@@ -10,7 +10,6 @@ use record::Record;
 use registers::RegSpec;
 ghost use mathlib.Core.Path.{_≡_};
 ghost use mathlib.Core.Bool.{false};
-ghost use Prim.Native.Nat.{_<_};
 ghost use Rattle.definition.specs.Listings.{wayAccess, explicitAt};
 ghost use Rattle.listing.specs.Cursors.{place, explicitNext, implicitNext, flagsNext, nextOf, Walked};
 
@@ -114,11 +113,8 @@ fn explicit_next(x: Record, i: u8) -> Listed
 }
 
 fn explicit_item(x: Record, i: u8) -> Item
-    requires { ⌜ i < 4 ⌝ }
     ensures { λ r. ⌜ r ≡ explicitAt x i ⌝ }
 {
-    let specs = x.specs;
     let digest = x.digest;
-    let at = i as usize;
-    Item::Explicit(i, specs[at], digest.operand_access(i))
+    Item::Explicit(i, x.spec(i), digest.operand_access(i))
 }
