@@ -1,11 +1,23 @@
 // The parts of an answer, each at its bit.
 ghost use mathlib.Core.Path.{_≡_};
-ghost use Prim.Native.Nat.{_+_, _*_, _^_, _<_, _≤_};
-ghost use Rattle.machhurel.specs.Answers.{digestBits, privilegeBits, exceptionBits, eventBits};
+ghost use Prim.Native.Nat.{_^_, _<_};
+ghost use Rattle.definition.specs.Visits.{countOf};
+ghost use Rattle.machhurel.specs.Answers.{answerBits, digestBits, privilegeBits, exceptionBits};
 use access::InfoAnswer;
+use definition::Answer;
 use definition::PrivilegeAnswer;
-use definition::Reading;
 use digest::DigestAnswer;
+
+pub fn answer_bits(a: Answer) -> u64
+    requires { ⌜ countOf a < 2 ^ 32 ⌝ }
+    ensures { λ r. ⌜ r ≡ answerBits a ⌝ }
+{
+    match a {
+        Answer::Done(n) => (n as u64) * 0x1_0000_0000,
+        Answer::Refused(number) => number as u64,
+        Answer::Complex(opcode) => 4 + (opcode as u64) * 0x100,
+    }
+}
 
 pub fn digest_bits(a: DigestAnswer) -> u64
     ensures { λ r. ⌜ r ≡ digestBits a ⌝ }
