@@ -1,0 +1,6 @@
+pub mod Weights
+pub mod Bytes
+pub mod Bounds
+pub mod ListingBound
+pub mod Events
+pub mod Outcomes

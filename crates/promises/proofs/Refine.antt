@@ -1,0 +1,109 @@
+-- Demand 3 over lists of steps: a file that knows more gives events that refine, and files that agree on the registers read give
+-- the same events. Assumes nothing.
+use Prim.Native.Nat.{ℕ}
+use mathlib.Core.Path.{_≡_, refl, ap₂, fun-ext}
+use mathlib.Core.List.{List, [], _∷_, _++_, map, List·Memᴰ, List·Memᴰ·head, Memᴰ·append-left, Memᴰ·append-right, Memᴰ·map}
+use Rattle.laws.specs.Lists.{each, flat}
+use Rattle.registers.specs.Files.{partOf, slotOf, after, valueOf}
+use Rattle.registers.specs.declared.RegSpec.{RegSpec}
+use Rattle.registers.specs.declared.RegisterFile.{RegisterFile}
+use Rattle.registers.specs.declared.Value.{Value}
+use Rattle.registers.specs.declared.Value.the-variants.{Known, Unknown}
+use Rattle.implicit.specs.declared.Way.{Way}
+use Rattle.implicit.specs.declared.Way.the-variants.{Load, Store}
+use Rattle.definition.specs.Addresses.{word, termRegisters, registersOf, termOf, placeOf, addressOf}
+use Rattle.definition.specs.Steps.{maskRegisters, Step, reads, writes, touches}
+use Rattle.definition.specs.Logs.{memoryEvent, stepEvents, eventsOf}
+use Rattle.definition.specs.declared.Address.{Address}
+use Rattle.definition.specs.declared.Term.{Term}
+use Rattle.definition.specs.declared.Term.the-variants.{Absent, Plain, Scaled}
+use Rattle.definition.specs.declared.Event.{Event}
+use Rattle.definition.specs.declared.Event.the-variants.{RegisterRead}
+use Rattle.promises.specs.Refinement.{Gives, Extends, Refines, same, found-read, found-write, RefinesAll, none, one, AgreeOn}
+
+gives-refl : (v : Value) → Gives v v
+gives-refl (Known v) = refl
+gives-refl Unknown = tt
+
+gives-after : (v u : Value) (k l : ℕ → Value) → Gives v u → ((n : ℕ) → Gives (k n) (l n)) → Gives (after v k) (after u l)
+gives-after (Known v) u k l e h = rw e (h v)
+gives-after Unknown u k l e h = tt
+
+all-refl : (es : List Event) → RefinesAll es es
+all-refl [] = none
+all-refl (e ∷ es) = one same (all-refl es)
+
+all-append : {a b c d : List Event} → RefinesAll a b → RefinesAll c d → RefinesAll (a ++ c) (b ++ d)
+all-append none q = q
+all-append (one h p) q = one h (all-append p q)
+
+memory-refines : (w : Way) (v u : Value) (n : ℕ) → Gives v u → Refines (memoryEvent w v n) (memoryEvent w u n)
+unfolding memoryEvent
+memory-refines Load (Known a) u n e = rw e same
+memory-refines Load Unknown (Known a) n e = found-read
+memory-refines Load Unknown Unknown n e = same
+memory-refines Store (Known a) u n e = rw e same
+memory-refines Store Unknown (Known a) n e = found-write
+memory-refines Store Unknown Unknown n e = same
+
+-- the first half
+module _ (f g : RegisterFile) (more : Extends f g) where
+  value-gives : (y : RegSpec) → Gives (valueOf f y) (valueOf g y)
+  unfolding valueOf
+  value-gives y = gives-after (slotOf f (partOf y .slot)) (slotOf g (partOf y .slot)) _ _ (more (partOf y .slot)) (λ n. refl)
+
+  term-gives : (t : Term) → Gives (termOf f t) (termOf g t)
+  unfolding termOf
+  term-gives Absent = refl
+  term-gives (Plain y) = value-gives y
+  term-gives (Scaled y k) = gives-after (valueOf f y) (valueOf g y) _ _ (value-gives y) (λ n. refl)
+
+  address-gives : (a : Address) → Gives (addressOf f a) (addressOf g a)
+  unfolding addressOf
+  address-gives a =
+      gives-after (termOf f (a .base)) (termOf g (a .base)) _ _ (term-gives (a .base))
+      (λ u. gives-after (termOf f (a .index)) (termOf g (a .index)) _ _ (term-gives (a .index)) (λ v. refl))
+
+  step-refines : (s : Step) → RefinesAll (stepEvents f s) (stepEvents g s)
+  unfolding stepEvents flat
+  step-refines (reads y) = all-refl _
+  step-refines (writes y) = all-refl _
+  step-refines (touches w a m n) =
+      all-append (all-refl (map RegisterRead (registersOf a)))
+      (all-append (all-refl (map RegisterRead (maskRegisters m)))
+      (one (memory-refines w (addressOf f a) (addressOf g a) n (address-gives a)) none))
+
+  pub steps-refine : (ss : List Step) → RefinesAll (eventsOf f ss) (eventsOf g ss)
+  unfolding each
+  steps-refine [] = none
+  steps-refine (s ∷ ss) = all-append (step-refines s) (steps-refine ss)
+
+-- the second half
+module _ (f g : RegisterFile) where
+  abbrev agree : List RegSpec → Type 0
+  agree ys = (y : RegSpec) → List·Memᴰ y ys → valueOf f y ≡ valueOf g y
+
+  term-agrees : (t : Term) → agree (termRegisters t) → termOf f t ≡ termOf g t
+  unfolding termOf termRegisters
+  term-agrees Absent h = refl
+  term-agrees (Plain y) h = h y (List·Memᴰ·head refl)
+  term-agrees (Scaled y k) h = rw (h y (List·Memᴰ·head refl))
+
+  address-agrees : (a : Address) → agree (registersOf a) → addressOf f a ≡ addressOf g a
+  unfolding addressOf registersOf
+  address-agrees a h =
+      simp
+      (term-agrees (a .base) (λ y e. h y (Memᴰ·append-left (termRegisters (a .index)) e)),
+      term-agrees (a .index) (λ y e. h y (Memᴰ·append-right (termRegisters (a .base)) e)))
+
+  step-agrees : (s : Step) → AgreeOn f g (stepEvents f s) → stepEvents f s ≡ stepEvents g s
+  unfolding stepEvents flat
+  step-agrees (reads y) h = refl
+  step-agrees (writes y) h = refl
+  step-agrees (touches w a m n) h = rw (address-agrees a (λ y e. h y (Memᴰ·append-left _ (Memᴰ·map RegisterRead e))))
+
+  pub steps-agree : (ss : List Step) → AgreeOn f g (eventsOf f ss) → eventsOf f ss ≡ eventsOf g ss
+  unfolding each
+  steps-agree [] h = refl
+  steps-agree (s ∷ ss) h =
+      ap₂ _++_ (step-agrees s (λ y e. h y (Memᴰ·append-left (eventsOf f ss) e))) (steps-agree ss (λ y e. h y (Memᴰ·append-right (stepEvents f s) e)))

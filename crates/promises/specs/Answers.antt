@@ -1,0 +1,237 @@
+-- The other calls: listing, digest, privilege, exceptions, reading a log, and the setters. A row is what is asked and what is answered.
+use Prim.Native.Nat.{ℕ, _^_}
+use mathlib.Core.List.{List, [], _∷_}
+use mathlib.Core.Bool.{Bool, true, false}
+use Rattle.access.specs.Exceptions.{infoOf, setOf, mayOf}
+use Rattle.access.specs.declared.InfoAnswer.{InfoAnswer}
+use Rattle.access.specs.declared.MayAnswer.{MayAnswer}
+use Rattle.access.specs.declared.PrivilegeLevel.{PrivilegeLevel}
+use Rattle.access.specs.declared.PrivilegeLevel.the-variants.{Any, PL0, Special, Reserved}
+use Rattle.registers.specs.Banks as banks
+use Rattle.digest.specs.Digests.{withPrivilege, withFlags, withNontrivial, withComplex, operandAnswer, listAnswer}
+use Rattle.digest.specs.declared.BehaviorDigest.{BehaviorDigest}
+use Rattle.digest.specs.declared.DigestAnswer.{DigestAnswer}
+use Rattle.definition.specs.Behaviors.{digestCall, privilegeCall, exceptionsCall}
+use Rattle.definition.specs.Readings.{readAt}
+use Rattle.definition.specs.declared.PrivilegeAnswer.{PrivilegeAnswer}
+use Rattle.definition.specs.declared.Answer.the-variants.{Done, Refused, Complex}
+use Rattle.definition.specs.declared.Event.the-variants.{RegisterRead, RegisterWrite, MemoryRead, MemoryWrite, UnknownRead, UnknownWrite}
+use Rattle.definition.specs.declared.Reading.{Reading}
+use Rattle.definition.specs.declared.Reading.the-variants.{Found, Bad, Finished}
+use Rattle.promises.specs.Rows.{Patch, recordWith, put, long, opcode, count, specs, reg, size, prefixes, behavior, access, list, Q, D, W, Nothing, RegRRR, RegMMM, Deref, Disp, Row, rowIn, row, Gives}
+
+-- Listing
+unfoldable pub listings : List Row
+listings =
+    -- flags, implicit list, explicit operands, access none included
+    row (behavior 0x0C ∷ list 21 ∷ specs (RegRRR ∷ Deref ∷ []) ∷ access 0x02 ∷ []) [] (Done 18)
+    (0x41 ∷ 3 ∷ 0x42 ∷ 0 ∷ 1 ∷ 1 ∷ 0x42 ∷ 0 ∷ 1 ∷ 2 ∷ 0x46 ∷ 0 ∷ 1 ∷ 2 ∷ 0x46 ∷ 1 ∷ 18 ∷ 0 ∷ [])
+    -- no flags; Nothing lists as spec 0, and is not refused; nor is memory of size 0
+    ∷ row (specs (Nothing ∷ Deref ∷ []) ∷ access 0x0D ∷ size 0 ∷ []) [] (Done 8) (0x46 ∷ 0 ∷ 0 ∷ 1 ∷ 0x46 ∷ 1 ∷ 18 ∷ 3 ∷ [])
+    -- Deref_rdi lists as MemDeref rdi, whatever the slots hold
+    ∷ row (list 24 ∷ []) [] (Done 8) (0x43 ∷ 0 ∷ 7 ∷ 1 ∷ 0x43 ∷ 0 ∷ 7 ∷ 2 ∷ [])
+    ∷ row (list 25 ∷ []) [] (Done 16)
+    (0x43 ∷ 0 ∷ 7 ∷ 1 ∷ 0x43 ∷ 0 ∷ 7 ∷ 2 ∷ 0x43 ∷ 0 ∷ 7 ∷ 1 ∷ 0x43 ∷ 0 ∷ 7 ∷ 2 ∷ [])
+    -- the four forms of an implicit operand
+    ∷ row (list 15 ∷ size 0 ∷ []) [] (Done 4) (0x43 ∷ 1 ∷ 7 ∷ 2 ∷ [])
+    ∷ row (list 26 ∷ []) [] (Done 16) (0x42 ∷ 0 ∷ 4 ∷ 1 ∷ 0x42 ∷ 0 ∷ 4 ∷ 2 ∷ 0x44 ∷ 0 ∷ 4 ∷ 0xF8 ∷ 0xFF ∷ 0xFF ∷ 0xFF ∷ 2 ∷ [])
+    ∷ row (list 28 ∷ []) [] (Done 7) (0x45 ∷ 0 ∷ 3 ∷ 4 ∷ 0 ∷ 1 ∷ 1 ∷ [])
+    -- the digest is the one after fix-ups
+    ∷ row (opcode 2 ∷ behavior 0x10 ∷ specs (RegRRR ∷ RegMMM ∷ []) ∷ access 0x00 ∷ []) [] (Done 8) (0x46 ∷ 0 ∷ 1 ∷ 3 ∷ 0x46 ∷ 1 ∷ 2 ∷ 1 ∷ [])
+    -- refusals 1, 2, 4 and 7, and no other
+    ∷ row (long 39 ∷ count 5 ∷ []) [] (Refused 1) []
+    ∷ row (count 5 ∷ behavior 0x20 ∷ []) [] (Refused 2) []
+    ∷ rowIn 0 0 (opcode 0x1234 ∷ behavior 0x20 ∷ specs (RegRRR ∷ []) ∷ []) [] (Complex 0x1234) []
+    ∷ row (opcode 26 ∷ behavior 0x20 ∷ specs (RegMMM ∷ []) ∷ []) [] (Done 4) (0x46 ∷ 0 ∷ 2 ∷ 1 ∷ [])
+    ∷ rowIn 7 3 (specs (RegRRR ∷ []) ∷ []) [] (Done 4) (0x46 ∷ 0 ∷ 1 ∷ 1 ∷ [])
+    ∷ rowIn 6 3 (specs (RegRRR ∷ []) ∷ []) [] (Refused 7) []
+    ∷ rowIn 5 5 [] [] (Done 0) []
+    ∷ rowIn 5 6 [] [] (Refused 7) []
+    ∷ []
+
+-- The digest after fix-ups
+abbrev pub digest : ℕ → ℕ → ℕ → BehaviorDigest
+digest b o e = record { behavior = b; operands = o; extra = e }
+
+abbrev pub fixed : ℕ → ℕ → ℕ → DigestAnswer
+fixed b o e = record { number = 0; digest = digest b o e }
+
+abbrev pub digestFor : List Patch → DigestAnswer
+digestFor cs = digestCall (recordWith (behavior 0x10 ∷ access 0xFF ∷ list 9 ∷ cs))
+
+unfoldable pub digests : List (List Patch × DigestAnswer)
+digests =
+    -- MUL by the width of regs[1] where spec 0 is RegMMM, else by mem_size; count is not asked
+    ((opcode 1 ∷ specs (RegMMM ∷ []) ∷ reg 1 W 0 ∷ size 4 ∷ []), fixed 0x10 0xFF 2)
+    ∷ ((opcode 1 ∷ specs (RegMMM ∷ []) ∷ count 0 ∷ reg 1 W 0 ∷ size 4 ∷ []), fixed 0x10 0xFF 2)
+    ∷ ((opcode 1 ∷ specs (RegRRR ∷ RegMMM ∷ []) ∷ reg 1 W 0 ∷ size 4 ∷ []), fixed 0x10 0xFF 3)
+    ∷ ((opcode 1 ∷ specs (Deref ∷ []) ∷ size 1 ∷ []), fixed 0x10 0xFF 1)
+    ∷ ((opcode 1 ∷ specs (Deref ∷ []) ∷ size 0 ∷ []), fixed 0x10 0xFF 4)
+    ∷ ((opcode 1 ∷ specs (Deref ∷ []) ∷ size 3 ∷ []), fixed 0x10 0xFF 4)
+    -- IMUL by its count
+    ∷ ((opcode 2 ∷ specs (RegMMM ∷ []) ∷ count 0 ∷ []), fixed 0x10 0xFF 9)
+    ∷ ((opcode 2 ∷ specs (RegMMM ∷ []) ∷ []), fixed 0x10 0xFF 4)
+    ∷ ((opcode 2 ∷ count 2 ∷ access 0x00 ∷ []), fixed 0x10 0x07 9)
+    ∷ ((opcode 2 ∷ count 2 ∷ []), fixed 0x10 0xF7 9)
+    ∷ ((opcode 2 ∷ count 3 ∷ []), fixed 0x10 0xD7 9)
+    ∷ ((opcode 2 ∷ count 4 ∷ []), fixed 0x10 0xFF 9)
+    -- NOP
+    ∷ ((opcode 5 ∷ count 1 ∷ []), fixed 0x10 0xFC 9)
+    ∷ ((opcode 5 ∷ count 0 ∷ []), fixed 0x10 0xFF 9)
+    ∷ ((opcode 5 ∷ count 2 ∷ []), fixed 0x10 0xFF 9)
+    -- VMOVLPS to VMOVHPD
+    ∷ ((opcode 7 ∷ count 2 ∷ access 0x00 ∷ []), fixed 0x10 0x03 9)
+    ∷ ((opcode 10 ∷ count 3 ∷ []), fixed 0x10 0xDE 9)
+    ∷ ((opcode 8 ∷ count 1 ∷ []), fixed 0x10 0xDE 9)
+    ∷ ((opcode 9 ∷ count 4 ∷ access 0x00 ∷ []), fixed 0x10 0x12 9)
+    -- EXTRQ, INSERTQ
+    ∷ ((opcode 11 ∷ count 2 ∷ []), fixed 0x10 0xFF 9)
+    ∷ ((opcode 11 ∷ count 3 ∷ []), fixed 0x10 0xDF 9)
+    ∷ ((opcode 12 ∷ count 2 ∷ []), fixed 0x10 0xFF 9)
+    ∷ ((opcode 12 ∷ count 3 ∷ []), fixed 0x10 0x5F 9)
+    ∷ ((opcode 12 ∷ count 4 ∷ access 0x00 ∷ []), fixed 0x10 0x50 9)
+    -- RETURN, RETF
+    ∷ ((opcode 13 ∷ count 0 ∷ []), fixed 0x10 0xFF 9)
+    ∷ ((opcode 14 ∷ count 1 ∷ []), fixed 0x10 0xFD 9)
+    -- VEX W, and the other prefixes
+    ∷ ((opcode 15 ∷ prefixes 0x01 ∷ []), fixed 0x10 0xFF 14)
+    ∷ ((opcode 15 ∷ prefixes 0x0E ∷ []), fixed 0x10 0xFF 13)
+    ∷ ((opcode 18 ∷ prefixes 0x01 ∷ []), fixed 0x10 0xFF 18)
+    ∷ ((opcode 17 ∷ prefixes 0x0E ∷ []), fixed 0x10 0xFF 17)
+    ∷ ((opcode 20 ∷ prefixes 0x01 ∷ []), fixed 0x10 0xFF 20)
+    ∷ ((opcode 19 ∷ prefixes 0x0E ∷ []), fixed 0x10 0xFF 19)
+    -- address size
+    ∷ ((opcode 16 ∷ prefixes 0x08 ∷ []), fixed 0x10 0xFF 15)
+    ∷ ((opcode 16 ∷ prefixes 0x07 ∷ []), fixed 0x10 0xFF 16)
+    -- LOOP: REX W before operand size
+    ∷ ((opcode 23 ∷ prefixes 0x06 ∷ []), fixed 0x10 0xFF 21)
+    ∷ ((opcode 21 ∷ prefixes 0x04 ∷ []), fixed 0x10 0xFF 22)
+    ∷ ((opcode 22 ∷ prefixes 0x09 ∷ []), fixed 0x10 0xFF 23)
+    -- bits 6 and 7 stay; without bit 4 nothing changes; refused, every other number is 0
+    ∷ ((opcode 13 ∷ count 1 ∷ behavior 0xDF ∷ []), fixed 0xDF 0xFD 9)
+    ∷ ((opcode 13 ∷ count 1 ∷ behavior 0xEF ∷ []), fixed 0xEF 0xFF 9)
+    ∷ ((long 41 ∷ []), record { number = 1; digest = digest 0 0 0 })
+    ∷ ((count 5 ∷ []), record { number = 2; digest = digest 0 0 0 })
+    ∷ []
+
+-- Exceptions: bit 13, and bit 14
+abbrev pub exceptionsFor : List Patch → InfoAnswer
+exceptionsFor cs = exceptionsCall (recordWith cs)
+
+abbrev pub raises : ℕ → InfoAnswer
+raises v = record { number = 0; info = infoOf v }
+
+unfoldable pub exceptions : List (List Patch × InfoAnswer)
+exceptions =
+    ((specs (RegRRR ∷ []) ∷ []), raises 0)
+    ∷ ((behavior 0x01 ∷ []), raises 0x2000)
+    ∷ ((behavior 0x02 ∷ []), raises 0x2000)
+    ∷ ((behavior 0x03 ∷ []), raises 0x2000)
+    ∷ ((behavior 0xCC ∷ []), raises 0)
+    -- complex, but for BT with RegMMM
+    ∷ ((behavior 0x20 ∷ []), raises 0x4000)
+    ∷ ((opcode 24 ∷ behavior 0x20 ∷ specs (RegMMM ∷ []) ∷ []), raises 0)
+    -- explicit memory, even with access none, not past count
+    ∷ ((specs (RegRRR ∷ Deref ∷ []) ∷ access 0x00 ∷ []), raises 0x4000)
+    ∷ ((specs (RegRRR ∷ Deref ∷ []) ∷ count 1 ∷ []), raises 0)
+    -- implicit memory, Deref_rdi too, by the list after fix-ups
+    ∷ ((list 24 ∷ []), raises 0x4000)
+    ∷ ((opcode 16 ∷ behavior 0x10 ∷ []), raises 0x4000)
+    ∷ ((opcode 1 ∷ behavior 0x10 ∷ list 28 ∷ []), raises 0)
+    -- both
+    ∷ ((behavior 0x01 ∷ list 15 ∷ size 0 ∷ []), raises 0x6000)
+    ∷ ((long 39 ∷ []), record { number = 1; info = infoOf 0 })
+    ∷ ((count 5 ∷ behavior 0x01 ∷ []), record { number = 2; info = infoOf 0 })
+    ∷ []
+
+-- Privilege
+abbrev pub privilegeFor : List Patch → PrivilegeAnswer
+privilegeFor cs = privilegeCall (recordWith cs)
+
+abbrev pub needs : ℕ → PrivilegeLevel → PrivilegeAnswer
+needs n l = record { number = n; level = l }
+
+unfoldable pub privileges : List (List Patch × PrivilegeAnswer)
+privileges =
+    ((behavior 0xFC ∷ []), needs 0 Any)
+    ∷ ((behavior 0xFD ∷ []), needs 0 PL0)
+    ∷ ((behavior 0xFE ∷ []), needs 0 Special)
+    ∷ ((behavior 0xFF ∷ []), needs 0 Reserved)
+    ∷ ((behavior 0x03 ∷ long 39 ∷ []), needs 1 Any)
+    ∷ ((behavior 0x03 ∷ count 5 ∷ []), needs 2 Any)
+    ∷ []
+
+-- Reading a log at a place
+abbrev pub readingFrom : List ℕ × ℕ → Reading
+readingFrom a = readAt (a .0) (a .1)
+
+unfoldable pub readings : List ((List ℕ × ℕ) × Reading)
+readings =
+    (((1 ∷ 0 ∷ 15 ∷ []), 0), Found (RegisterRead (banks.reg 0 15)) 3)
+    ∷ (((9 ∷ 9 ∷ 2 ∷ 12 ∷ 31 ∷ 9 ∷ []), 2), Found (RegisterWrite (banks.reg 12 31)) 5)
+    ∷ (((3 ∷ 1 ∷ 2 ∷ 3 ∷ 4 ∷ 5 ∷ 6 ∷ 7 ∷ 8 ∷ 64 ∷ []), 0), Found (MemoryRead 0x0807060504030201 64) 10)
+    ∷ (((0 ∷ 4 ∷ 0 ∷ 0 ∷ 0 ∷ 0 ∷ 0 ∷ 0 ∷ 0 ∷ 0x80 ∷ 1 ∷ []), 1), Found (MemoryWrite (2 ^ 63) 1) 11)
+    ∷ (((5 ∷ 1 ∷ []), 0), Found (UnknownRead 1) 2)
+    ∷ (((6 ∷ 64 ∷ 0 ∷ []), 0), Found (UnknownWrite 64) 2)
+    -- finished at the end and past it
+    ∷ (([], 0), Finished)
+    ∷ (((5 ∷ 1 ∷ []), 2), Finished)
+    ∷ (((5 ∷ 1 ∷ []), 3), Finished)
+    -- kinds, and bodies cut short, also where what is there is bad
+    ∷ (((0 ∷ 1 ∷ 1 ∷ []), 0), Bad 1)
+    ∷ (((7 ∷ 1 ∷ 1 ∷ []), 0), Bad 1)
+    ∷ (((2 ∷ 99 ∷ []), 0), Bad 1)
+    ∷ (((3 ∷ 1 ∷ 2 ∷ 3 ∷ 4 ∷ 5 ∷ 6 ∷ 7 ∷ 8 ∷ []), 0), Bad 1)
+    ∷ (((6 ∷ []), 0), Bad 1)
+    -- contents
+    ∷ (((1 ∷ 0 ∷ 16 ∷ []), 0), Bad 2)
+    ∷ (((2 ∷ 13 ∷ 0 ∷ []), 0), Bad 2)
+    ∷ (((3 ∷ 0 ∷ 0 ∷ 0 ∷ 0 ∷ 0 ∷ 0 ∷ 0 ∷ 0 ∷ 0 ∷ []), 0), Bad 2)
+    ∷ (((4 ∷ 0 ∷ 0 ∷ 0 ∷ 0 ∷ 0 ∷ 0 ∷ 0 ∷ 0 ∷ 65 ∷ []), 0), Bad 2)
+    ∷ (((5 ∷ 0 ∷ []), 0), Bad 2)
+    ∷ (((6 ∷ 65 ∷ []), 0), Bad 2)
+    ∷ []
+
+-- Setters: a vector above 31, an operand above 3 and a list above 28 are refused 2, and every other number is 0
+abbrev pub vectors : (ℕ × ℕ) × Bool → InfoAnswer
+vectors a = setOf (infoOf (a .0 .0)) (a .0 .1) (a .1)
+
+unfoldable pub vector-rows : List (((ℕ × ℕ) × Bool) × InfoAnswer)
+vector-rows =
+    (((0, 0), true), raises 1)
+    ∷ (((0x4000, 31), true), raises 0x80004000)
+    ∷ (((0xFFFFFFFF, 13), false), raises 0xFFFFDFFF)
+    ∷ (((0x2000, 13), true), raises 0x2000)
+    ∷ (((0xFFFFFFFF, 32), true), record { number = 2; info = infoOf 0 })
+    ∷ []
+
+abbrev pub may : ℕ × ℕ → MayAnswer
+may a = mayOf (infoOf (a .0)) (a .1)
+
+unfoldable pub may-rows : List ((ℕ × ℕ) × MayAnswer)
+may-rows =
+    ((0x80002000, 13), record { number = 0; may = true })
+    ∷ ((0x80002000, 14), record { number = 0; may = false })
+    ∷ ((0x80002000, 31), record { number = 0; may = true })
+    ∷ ((0xFFFFFFFF, 32), record { number = 2; may = false })
+    ∷ []
+
+abbrev pub setter : (BehaviorDigest → DigestAnswer) → DigestAnswer
+setter f = f (digest 0xA5 0x5A 9)
+
+abbrev pub as-answer : (BehaviorDigest → BehaviorDigest) → BehaviorDigest → DigestAnswer
+as-answer f d = record { number = 0; digest = f d }
+
+unfoldable pub setter-rows : List ((BehaviorDigest → DigestAnswer) × DigestAnswer)
+setter-rows =
+    (as-answer (withPrivilege 2), fixed 0xA6 0x5A 9)
+    ∷ (as-answer (withFlags 2), fixed 0xA9 0x5A 9)
+    ∷ (as-answer (withNontrivial true), fixed 0xB5 0x5A 9)
+    ∷ (as-answer (withNontrivial false), fixed 0xA5 0x5A 9)
+    ∷ (as-answer (withComplex false), fixed 0x85 0x5A 9)
+    ∷ (operandAnswer 0 1, fixed 0xA5 0x59 9)
+    ∷ (operandAnswer 3 3, fixed 0xA5 0xDA 9)
+    ∷ (operandAnswer 4 0, record { number = 2; digest = digest 0 0 0 })
+    ∷ (listAnswer 28, fixed 0xA5 0x5A 28)
+    ∷ (listAnswer 29, record { number = 2; digest = digest 0 0 0 })
+    ∷ []

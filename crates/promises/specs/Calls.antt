@@ -1,0 +1,43 @@
+-- What two calls have in common, and what a call keeps.
+use Prim.Native.Nat.{ℕ, _^_, _<_}
+use mathlib.Core.Path.{_≡_}
+use mathlib.Core.List.{List, [], _∷_}
+use lib.ListN.{length}
+use Rattle.laws.specs.Lending.{splice}
+use Rattle.definition.specs.Logs.{bytesOf}
+use Rattle.definition.specs.Readings.{readAt}
+use Rattle.definition.specs.declared.Answer.{Answer}
+use Rattle.definition.specs.declared.Answer.the-variants.{Done, Refused, Complex}
+use Rattle.definition.specs.declared.Event.{Event}
+use Rattle.definition.specs.declared.Event.the-variants.{RegisterRead, RegisterWrite, MemoryRead, MemoryWrite, UnknownRead, UnknownWrite}
+use Rattle.definition.specs.declared.Reading.the-variants.{Found}
+use Rattle.promises.specs.Refinement.{RefinesAll}
+
+-- a refusal's answer: any but Done
+pub data Refusal : Answer → Type 0 where
+  by-number : {k : ℕ} → Refusal (Refused k)
+  by-opcode : {o : ℕ} → Refusal (Complex o)
+
+-- Two outcomes, each an answer and a buffer: the one over the buffer p from s, whose events are ds, the other over q from t, whose
+-- events are es. Both refuse with the same answer and leave the buffers, or both write their events, and the second refine the first.
+pub data Alike (one two : Answer × List ℕ) (p q : List ℕ) (s t : ℕ) (ds es : List Event) : Type 0 where
+  refused : (a : Answer) → Refusal a → one ≡ (a, p) → two ≡ (a, q) → Alike one two p q s t ds es
+  logged :
+    one ≡ (Done (length (bytesOf ds)), splice p s (bytesOf ds))
+    → two ≡ (Done (length (bytesOf es)), splice q t (bytesOf es))
+    → RefinesAll ds es
+    → Alike one two p q s t ds es
+
+-- the events that stand in a buffer from a place up to another, one reading after the other
+pub data ReadsFrom (l : List ℕ) : ℕ → List Event → ℕ → Type 0 where
+  stop : {at : ℕ} → ReadsFrom l at [] at
+  step : {at next end : ℕ} {e : Event} {es : List Event} → readAt l at ≡ Found e next → ReadsFrom l next es end → ReadsFrom l at (e ∷ es) end
+
+-- an event whose address, where it has one, is a number of 8 bytes
+abbrev pub Addressable : Event → Type 0
+Addressable (RegisterRead y) = Unit {0}
+Addressable (RegisterWrite y) = Unit {0}
+Addressable (MemoryRead a n) = a < 2 ^ 64
+Addressable (MemoryWrite a n) = a < 2 ^ 64
+Addressable (UnknownRead n) = Unit {0}
+Addressable (UnknownWrite n) = Unit {0}

@@ -1,0 +1,226 @@
+-- How the rows of the tables are written: records and files by what differs from document 01's defaults, and what a row says.
+use Prim.Native.Nat.{ℕ, _+_, _-_, _*_, _^_}
+use mathlib.Core.Path.{_≡_}
+use mathlib.Core.List.{List, [], _∷_, _++_, map}
+use lib.ListN.{length, take, drop, replicate}
+use lib.Seq.{sets}
+use Rattle.laws.specs.Words.{numberAt, little}
+use Rattle.definition.specs.Visits.{visitOf}
+use Rattle.definition.specs.Listings.{listingCall}
+use Rattle.definition.specs.declared.Answer.{Answer}
+
+-- a change of some bytes
+abbrev pub Patch : Type 0
+Patch = List ℕ → List ℕ
+
+abbrev pub patched : List Patch → List ℕ → List ℕ
+patched [] b = b
+patched (c ∷ cs) b = patched cs (c b)
+
+-- these bytes from this place on
+abbrev pub put : ℕ → List ℕ → Patch
+put place bytes b = sets b place bytes
+
+-- so many bytes, cut or with 0 behind
+abbrev pub long : ℕ → Patch
+long n b = take n b ++ replicate (n - length b) 0
+
+-- a record: opcode 40, count 0, access 0x01, size 8, all else 0
+abbrev pub recordWith : List Patch → List ℕ
+recordWith cs = patched (put 0 (0x10 ∷ 40 ∷ []) ∷ put 16 (8 ∷ []) ∷ put 37 (0x01 ∷ []) ∷ cs) (replicate 40 0)
+
+abbrev pub opcode : ℕ → Patch
+opcode n = put 1 (little 2 n)
+
+abbrev pub count : ℕ → Patch
+count n = put 3 (n ∷ [])
+
+-- the specs named, and the count that they make
+abbrev pub specs : List ℕ → Patch
+specs ss = put 3 (length ss ∷ ss)
+
+abbrev pub reg : ℕ → ℕ → ℕ → Patch
+reg i bank number = put (8 + 2 * i) (bank ∷ number ∷ [])
+
+abbrev pub size : ℕ → Patch
+size n = put 16 (n ∷ [])
+
+abbrev pub scale : ℕ → Patch
+scale n = put 17 (n ∷ [])
+
+abbrev pub disp : ℕ → Patch
+disp v = put 18 (little 8 v)
+
+abbrev pub imm : ℕ → Patch
+imm v = put 26 (little 8 v)
+
+abbrev pub prefixes : ℕ → Patch
+prefixes n = put 34 (n ∷ [])
+
+abbrev pub mask : ℕ → Patch
+mask n = put 35 (n ∷ [])
+
+abbrev pub behavior : ℕ → Patch
+behavior n = put 36 (n ∷ [])
+
+abbrev pub access : ℕ → Patch
+access n = put 37 (n ∷ [])
+
+abbrev pub list : ℕ → Patch
+list n = put 38 (little 2 n)
+
+-- a register file that knows nothing but what is said
+abbrev pub fileWith : List Patch → List ℕ
+fileWith cs = patched (put 0 (0x20 ∷ []) ∷ cs) (replicate 141 0)
+
+abbrev pub knows : ℕ → ℕ → Patch
+knows k v f = put (5 + 8 * k) (little 8 v) (put 1 (little 4 (numberAt f 1 4 + 2 ^ k)) f)
+
+-- banks
+abbrev pub Q : ℕ
+Q = 0
+
+abbrev pub D : ℕ
+D = 1
+
+abbrev pub W : ℕ
+W = 2
+
+abbrev pub rB : ℕ
+rB = 3
+
+abbrev pub B : ℕ
+B = 4
+
+abbrev pub X : ℕ
+X = 5
+
+abbrev pub K : ℕ
+K = 8
+
+abbrev pub RIP : ℕ
+RIP = 9
+
+abbrev pub EIP : ℕ
+EIP = 10
+
+abbrev pub RFLAGS : ℕ
+RFLAGS = 11
+
+-- specs
+abbrev pub Nothing : ℕ
+Nothing = 0
+
+abbrev pub RegRRR : ℕ
+RegRRR = 1
+
+abbrev pub RegMMM : ℕ
+RegMMM = 2
+
+abbrev pub RegVex : ℕ
+RegVex = 3
+
+abbrev pub Reg4 : ℕ
+Reg4 = 4
+
+abbrev pub RegRRR-maskmerge : ℕ
+RegRRR-maskmerge = 5
+
+abbrev pub ImmI8 : ℕ
+ImmI8 = 11
+
+abbrev pub Deref : ℕ
+Deref = 18
+
+abbrev pub Deref-mask : ℕ
+Deref-mask = 19
+
+abbrev pub Deref-rdi : ℕ
+Deref-rdi = 20
+
+abbrev pub Deref-rsi : ℕ
+Deref-rsi = 21
+
+abbrev pub Deref-edi : ℕ
+Deref-edi = 22
+
+abbrev pub Disp : ℕ
+Disp = 24
+
+abbrev pub MemIndexScale : ℕ
+MemIndexScale = 26
+
+abbrev pub MemBaseIndexScale : ℕ
+MemBaseIndexScale = 30
+
+abbrev pub MemBaseIndexScale-mask : ℕ
+MemBaseIndexScale-mask = 31
+
+abbrev pub MemBaseIndexScaleDisp : ℕ
+MemBaseIndexScaleDisp = 32
+
+abbrev pub MemBaseIndexScaleDisp-mask : ℕ
+MemBaseIndexScaleDisp-mask = 33
+
+abbrev pub DispU64 : ℕ
+DispU64 = 34
+
+abbrev pub DispU32 : ℕ
+DispU32 = 35
+
+-- the bytes of events
+abbrev pub log : List (List ℕ) → List ℕ
+log [] = []
+log (e ∷ es) = e ++ log es
+
+abbrev pub reads : ℕ → ℕ → List ℕ
+reads bank number = 1 ∷ bank ∷ number ∷ []
+
+abbrev pub writes : ℕ → ℕ → List ℕ
+writes bank number = 2 ∷ bank ∷ number ∷ []
+
+abbrev pub loads : ℕ → ℕ → List ℕ
+loads a n = 3 ∷ (little 8 a ++ (n ∷ []))
+
+abbrev pub stores : ℕ → ℕ → List ℕ
+stores a n = 4 ∷ (little 8 a ++ (n ∷ []))
+
+abbrev pub loads-unknown : ℕ → List ℕ
+loads-unknown n = 5 ∷ n ∷ []
+
+abbrev pub stores-unknown : ℕ → List ℕ
+stores-unknown n = 6 ∷ n ∷ []
+
+-- A row of visiting or listing: a record, a file, a buffer of so many bytes 0xEE, a start; the answer, and what stands from the start on
+pub record Row : Type 0 where
+  pub fields : List Patch
+  pub file : List Patch
+  pub room : ℕ
+  pub start : ℕ
+  pub answer : Answer
+  pub bytes : List ℕ
+
+abbrev pub rowIn : ℕ → ℕ → List Patch → List Patch → Answer → List ℕ → Row
+rowIn n s r f a l = record { fields = r; file = f; room = n; start = s; answer = a; bytes = l }
+
+-- room for every log, and bytes before and behind it
+abbrev pub row : List Patch → List Patch → Answer → List ℕ → Row
+row r f a l = rowIn 181 2 r f a l
+
+abbrev pub buffer : ℕ → List ℕ
+buffer n = replicate n 0xEE
+
+-- what a row says: the answer, and the buffer with these bytes in it and all else as it was
+abbrev pub said : Row → Answer × List ℕ
+said r = (r .answer, take (r .start) (buffer (r .room)) ++ (r .bytes ++ drop (r .start + length (r .bytes)) (buffer (r .room))))
+
+-- every row says what the definition of visiting, or of listing, gives
+abbrev pub Visited : List Row → Type 0
+Visited rows = map (λ (r : Row). visitOf (recordWith (r .fields)) (fileWith (r .file)) (buffer (r .room)) (r .start)) rows ≡ map said rows
+
+abbrev pub Listed : List Row → Type 0
+Listed rows = map (λ (r : Row). listingCall (recordWith (r .fields)) (buffer (r .room)) (r .start)) rows ≡ map said rows
+
+-- every row of two says what a function gives: the input, and the output
+abbrev pub Gives : {A B : Type 0} → (A → B) → List (A × B) → Type 0
+Gives {A} {B} f rows = map (λ (r : A × B). f (r .0)) rows ≡ map (λ (r : A × B). r .1) rows
