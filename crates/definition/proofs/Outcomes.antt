@@ -1,8 +1,9 @@
 -- The outcome of a call that writes, case by case: refused by what stands before the room, past the end, no room, written. They hold
 -- for the bytes of anything, so that listing and visiting cite the same laws. Assumes nothing.
 use Prim.Native.Nat.{ℕ, _-_, _≤_, _<_}
+use native.Mathlib.Omega.{arith}
 use mathlib.Core.Path.{_≡_, refl, sym, _∙_}
-use mathlib.Core.Bool.{Bool, true, false}
+use mathlib.Core.Bool.{Bool, true, false, not, cond}
 use mathlib.Core.List.{List, [], _∷_, _++_}
 use lib.ListN.{length}
 use borrow.Author.Tests.{lt-ltb, le-ltb, ne-eqb}
@@ -12,6 +13,8 @@ use Rattle.laws.specs.Lending.{Logged}
 use Rattle.laws.proofs.Choice.{first-later}
 use Rattle.laws.proofs.Every.{Every}
 use Rattle.laws.proofs.Lending.{part, back, spliced, part-length}
+use Rattle.record.specs.Records.{isRecord, recordOf, outside, recordRefusal}
+use Rattle.record.proofs.Laws.{passed}
 use Rattle.definition.specs.Refusals.{noRoom}
 use Rattle.definition.specs.Visits.{outcome}
 use Rattle.definition.specs.declared.Answer.{Answer}
@@ -27,6 +30,27 @@ first-front ((false, n) ∷ ts) us e ne = first-front ts us e ne
 pub first-back : (ts us : List (Bool × ℕ)) → Every (λ t. t .0 ≡ false) ts → firstOf (ts ++ us) ≡ firstOf us
 first-back [] us h = refl
 first-back (t ∷ ts) us h = first-later (t .0) (t .1) (ts ++ us) (h .0) ∙ first-back ts us (h .1)
+
+-- Refusals 1 and 2 stand first in the table of every call on a record: they refuse, or the others decide
+module _ (b : List ℕ) (us : List (Bool × ℕ)) where
+  pub by-record : (recordRefusal b ≡ 0 → ⊥) → firstOf ((not (isRecord b), 1) ∷ (outside (recordOf b), 2) ∷ us) ≡ recordRefusal b
+  unfolding recordRefusal
+  by-record ne = first-front ((not (isRecord b), 1) ∷ (outside (recordOf b), 2) ∷ []) us refl ne
+
+  pub past-record : recordRefusal b ≡ 0 → firstOf ((not (isRecord b), 1) ∷ (outside (recordOf b), 2) ∷ us) ≡ firstOf us
+  past-record e =
+      let p = passed b e in
+      first-back ((not (isRecord b), 1) ∷ (outside (recordOf b), 2) ∷ []) us (rw (p .is) refl, (p .in-tables, tt))
+
+-- and no record is refused 4 by its bytes alone
+pub never-complex : (b : List ℕ) → recordRefusal b ≡ 4 → ⊥
+unfolding recordRefusal firstOf
+never-complex b e = by (not (isRecord b)) (outside (recordOf b)) e
+  where
+    by : (s t : Bool) → cond {A = ℕ} s 1 (cond t 2 0) ≡ 4 → ⊥
+    by true t e = omega arith
+    by false true e = omega arith
+    by false false e = omega arith
 
 -- What a refusal number gives
 module _ (opcode : ℕ) (bytes buffer : List ℕ) (start : ℕ) where

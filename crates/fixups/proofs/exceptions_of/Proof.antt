@@ -1,0 +1,43 @@
+use mathlib.Core.Path.{ap}
+use Rattle.fixups.proofs.Answers.{two-vectors}
+use Rattle.access.specs.Exceptions.{setOf, infoOf}
+use Rattle.definition.specs.Behaviors.{exceptionsOf, mayProtect, mayFault}
+use borrow.Author.Needs.{needs}
+use Rattle.fixups.proofs.exceptions_of.Statement.{statement}
+use Rattle.fixups.proofs.exceptions_of.Tie as tie
+use Rattle.fixups.proofs.exceptions_of.Reads as reads
+use Rattle.fixups.proofs.exceptions_of.Lts as lts
+use Rattle.access.proofs.ExceptionInfo.empty.Reads as empty-reads
+use Rattle.access.proofs.ExceptionInfo.set.Reads as set-reads
+use Rattle.fixups.proofs.may_protect.Reads as may-protect-reads
+use Rattle.fixups.proofs.memory.may_fault.Reads as may-fault-reads
+
+empty-requires : tie.Need-empty-requires
+empty-requires c κs = search needs
+
+may-protect-requires : tie.Need-may-protect-requires
+may-protect-requires c κs = search needs
+
+set-requires : tie.Need-set-requires
+set-requires c κs = search needs
+
+may-fault-requires : tie.Need-may-fault-requires
+may-fault-requires c κs = search needs
+
+set-requires-2 : tie.Need-set-requires-2
+set-requires-2 c κs = search needs
+
+returns : tie.Need-returns
+unfolding exceptionsOf setOf
+returns c = let x = c .before .before .before .before .before .before .before .args .x in rw (c .before .set2 .ensures, c .before .before .before .before .set .ensures, c .before .before .before .before .before .before .empty .ensures, c .before .before .before .before .before .may-protect .ensures, c .before .before .may-fault .ensures) (ap infoOf (two-vectors (mayProtect x) (mayFault x)))
+
+pub exceptions-of-spec : {M : Type 1} → statement M
+exceptions-of-spec =
+    tie.close
+    (tie.spec
+    empty-requires
+    may-protect-requires
+    set-requires
+    may-fault-requires
+    set-requires-2
+    returns)

@@ -1,0 +1,17 @@
+use Rattle.definition.specs.Behaviors.{fixedUp}
+use borrow.Author.Needs.{needs}
+use Rattle.fixups.proofs.fixed_up.Statement.{statement}
+use Rattle.fixups.proofs.fixed_up.Tie as tie
+use Rattle.fixups.proofs.fixed_up.Reads as reads
+use Rattle.fixups.proofs.fixed_up.Lts as lts
+use Rattle.fixups.proofs.digest_of.Reads as digest-of-reads
+
+digest-of-requires : tie.Need-digest-of-requires
+digest-of-requires c κs = search needs
+
+returns : tie.Need-returns
+unfolding fixedUp
+returns c = rw (c .digest-of .ensures)
+
+pub fixed-up-spec : {M : Type 1} → statement M
+fixed-up-spec = tie.close (tie.spec digest-of-requires returns)

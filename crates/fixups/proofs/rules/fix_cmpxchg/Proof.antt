@@ -1,0 +1,17 @@
+use Rattle.definition.specs.Behaviors.{fixUp}
+use borrow.Author.Needs.{needs}
+use Rattle.fixups.proofs.rules.fix_cmpxchg.Statement.{statement}
+use Rattle.fixups.proofs.rules.fix_cmpxchg.Tie as tie
+use Rattle.fixups.proofs.rules.fix_cmpxchg.Reads as reads
+use Rattle.fixups.proofs.rules.fix_cmpxchg.Lts as lts
+use Rattle.fixups.proofs.rules.by_width.Reads as by-width-reads
+
+by-width-requires : tie.Need-by-width-requires
+by-width-requires c κs = search needs
+
+returns : tie.Need-returns
+unfolding fixUp
+returns c = c .by-width .ensures
+
+pub fix-cmpxchg-spec : {M : Type 1} → statement M
+fix-cmpxchg-spec = tie.close (tie.spec by-width-requires returns)
