@@ -4,5 +4,3 @@ pub mod Bounds
 pub mod ListingBound
 pub mod Events
 pub mod Outcomes
-pub mod Operands
-pub mod Shapes

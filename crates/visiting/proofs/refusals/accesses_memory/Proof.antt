@@ -1,4 +1,4 @@
-use Rattle.definition.proofs.Operands.{accessed-is}
+use Rattle.visiting.proofs.Operands.{accessed-is}
 use Rattle.definition.specs.Behaviors.{isMemory}
 use borrow.Author.Needs.{needs}
 use Rattle.visiting.proofs.refusals.accesses_memory.Statement.{statement}

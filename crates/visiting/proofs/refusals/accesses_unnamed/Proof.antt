@@ -1,5 +1,5 @@
-use Rattle.definition.proofs.Shapes.{unnamed-is}
-use Rattle.definition.proofs.Operands.{accessed-is}
+use Rattle.visiting.proofs.Shapes.{unnamed-is}
+use Rattle.visiting.proofs.Operands.{accessed-is}
 use Rattle.definition.specs.Refusals.{unnamed}
 use Rattle.record.specs.Records.{specAt}
 use borrow.Author.Needs.{needs}
