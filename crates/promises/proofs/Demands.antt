@@ -24,9 +24,10 @@ use Rattle.promises.proofs.Refine.{steps-refine, steps-agree}
 pub room-enough : (b : List ℕ) (f : RegisterFile) (p : List ℕ) (s : ℕ) → s + 177 ≤ length p → noRoom (length (bytesOf (logOf b f))) p s ≡ false
 unfolding noRoom logOf
 room-enough b f p s h =
-    simp
-    (le-ltb (length p) s (omega arith),
-    le-ltb (length p - s) (length (bytesOf (logOf b f))) (omega (arith, log-bytes f (fixedRecord b))))
+    simp (
+      le-ltb (length p) s (omega arith),
+      le-ltb (length p - s) (length (bytesOf (logOf b f))) (omega (arith, log-bytes f (fixedRecord b))),
+    )
 
 -- the log of the second file refines that of the first
 logs-refine : (b : List ℕ) (f g : RegisterFile) → Extends f g → RefinesAll (logOf b f) (logOf b g)
@@ -49,10 +50,12 @@ module _ (bad : Bool) (b : List ℕ) (f g : RegisterFile) (p q : List ℕ) (s t 
     where
       same-number : refusalOf bad b f p s ≡ refusalOf bad b g q t
       same-number = refuse-alike hp hq
+
       by-test : (k : ℕ) (z u : Bool) → refusalOf bad b g q t ≡ k → eqb k 0 ≡ z → eqb k 4 ≡ u → Alike (visitBy bad b f p s) (visitBy bad b g q t) p q s t (logOf b f) (logOf b g)
       by-test k true u e h i = logged (rw (same-number, e, h)) (rw (e, h)) (logs-refine b f g more)
       by-test k false true e h i = refused (Complex (recordOf b .opcode)) by-opcode (rw (same-number, e, h, i)) (rw (e, h, i))
       by-test k false false e h i = refused (Refused k) by-number (rw (same-number, e, h, i)) (rw (e, h, i))
+
       go : (k : ℕ) → refusalOf bad b g q t ≡ k → Alike (visitBy bad b f p s) (visitBy bad b g q t) p q s t (logOf b f) (logOf b g)
       go k e = by-test k (eqb k 0) (eqb k 4) e refl refl
 

@@ -314,10 +314,11 @@ module _ (x : Record) (s : Sound x) where
     implied-good w (implied.MemDeref y) h = ((and-left (registerTest y) _ h, tt), tt, list-sized (and-right (registerTest y) _ h))
     implied-good w (implied.Disp y n) h = ((and-left (registerTest y) _ h, tt), tt, list-sized (and-right (registerTest y) _ h))
     implied-good w (implied.MemBaseIndexScale y z n) h =
-        let both = and-left (registerTest y && registerTest z) (isIn (x .digest .extra) memoryLists) h in
-        ((and-left (registerTest y) (registerTest z) both, (and-right (registerTest y) (registerTest z) both, tt)),
-        tt,
-        list-sized (and-right (registerTest y && registerTest z) (isIn (x .digest .extra) memoryLists) h))
+        let both = and-left (registerTest y && registerTest z) (isIn (x .digest .extra) memoryLists) h in (
+          (and-left (registerTest y) (registerTest z) both, (and-right (registerTest y) (registerTest z) both, tt)),
+          tt,
+          list-sized (and-right (registerTest y && registerTest z) (isIn (x .digest .extra) memoryLists) h),
+        )
 
     slot-good : (i : ℕ) → Every Good (slotRegisters x i)
     unfolding slotRegisters

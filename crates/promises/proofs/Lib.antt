@@ -1,6 +1,11 @@
 pub mod Refine
+pub mod Outcomes
 pub mod Demands
 pub mod RoundTrip
 pub mod Good
+pub mod Whole
+pub mod Unknown
 pub mod Opened
 pub mod Tables
+pub mod Wrong
+pub mod Proved

@@ -92,9 +92,10 @@ module _ (f g : RegisterFile) where
   address-agrees : (a : Address) → agree (registersOf a) → addressOf f a ≡ addressOf g a
   unfolding addressOf registersOf
   address-agrees a h =
-      simp
-      (term-agrees (a .base) (λ y e. h y (Memᴰ·append-left (termRegisters (a .index)) e)),
-      term-agrees (a .index) (λ y e. h y (Memᴰ·append-right (termRegisters (a .base)) e)))
+      simp (
+        term-agrees (a .base) (λ y e. h y (Memᴰ·append-left (termRegisters (a .index)) e)),
+        term-agrees (a .index) (λ y e. h y (Memᴰ·append-right (termRegisters (a .base)) e)),
+      )
 
   step-agrees : (s : Step) → AgreeOn f g (stepEvents f s) → stepEvents f s ≡ stepEvents g s
   unfolding stepEvents flat

@@ -1,8 +1,8 @@
--- What two calls have in common, and what a call keeps.
-use Prim.Native.Nat.{ℕ, _^_, _<_}
+-- What two calls have in common, what a call changes, and what stands in a log.
+use Prim.Native.Nat.{ℕ, _+_, _^_, _<_}
 use mathlib.Core.Path.{_≡_}
 use mathlib.Core.List.{List, [], _∷_}
-use lib.ListN.{length}
+use lib.ListN.{length, take, drop}
 use Rattle.laws.specs.Lending.{splice}
 use Rattle.definition.specs.Logs.{bytesOf}
 use Rattle.definition.specs.Readings.{readAt}
@@ -23,12 +23,20 @@ pub data Refusal : Answer → Type 0 where
 pub data Alike (one two : Answer × List ℕ) (p q : List ℕ) (s t : ℕ) (ds es : List Event) : Type 0 where
   refused : (a : Answer) → Refusal a → one ≡ (a, p) → two ≡ (a, q) → Alike one two p q s t ds es
   logged :
-    one ≡ (Done (length (bytesOf ds)), splice p s (bytesOf ds))
-    → two ≡ (Done (length (bytesOf es)), splice q t (bytesOf es))
-    → RefinesAll ds es
-    → Alike one two p q s t ds es
+      one ≡ (Done (length (bytesOf ds)), splice p s (bytesOf ds))
+      → two ≡ (Done (length (bytesOf es)), splice q t (bytesOf es))
+      → RefinesAll ds es
+      → Alike one two p q s t ds es
 
--- the events that stand in a buffer from a place up to another, one reading after the other
+-- the n bytes of `new` from the start on are these, and all else is as it was in `old`
+pub record Written (bytes old new : List ℕ) (start n : ℕ) : Type 0 where
+  pub count : n ≡ length bytes
+  pub long : length new ≡ length old
+  pub before : take start new ≡ take start old
+  pub inside : take n (drop start new) ≡ bytes
+  pub behind : drop (start + n) new ≡ drop (start + n) old
+
+-- the events that reading finds in a buffer from one place up to another, each reading at the place after the last
 pub data ReadsFrom (l : List ℕ) : ℕ → List Event → ℕ → Type 0 where
   stop : {at : ℕ} → ReadsFrom l at [] at
   step : {at next end : ℕ} {e : Event} {es : List Event} → readAt l at ≡ Found e next → ReadsFrom l next es end → ReadsFrom l at (e ∷ es) end
@@ -41,3 +49,11 @@ Addressable (MemoryRead a n) = a < 2 ^ 64
 Addressable (MemoryWrite a n) = a < 2 ^ 64
 Addressable (UnknownRead n) = Unit {0}
 Addressable (UnknownWrite n) = Unit {0}
+
+-- a program that visits, and one that keeps the contract of the public visit: its whole outcome is the defined one
+abbrev pub Program : Type 0
+Program = List ℕ → List ℕ → List ℕ → ℕ → Answer × List ℕ
+
+-- any two outcomes that a contract `o ≡ x` allows are equal
+abbrev pub OneOutcome : {A : Type 0} → A → Type 0
+OneOutcome {A} x = (o u : A) → o ≡ x → u ≡ x → o ≡ u

@@ -5,3 +5,5 @@ pub mod Bench
 pub mod Beyond
 pub mod Answers
 pub mod Sweeps
+pub mod Fullest
+pub mod Promises

@@ -1,0 +1,96 @@
+-- What an outcome says of its refusal and its buffer. Assumes nothing.
+use Prim.Native.Nat.{ℕ, zero, suc, _+_, _-_, _≤_}
+use native.Mathlib.Omega.{arith}
+use borrow.Author.Tests.{ltb-false, eqb-true}
+use mathlib.Core.Path.{_≡_, refl, sym, ap, _∙_}
+use mathlib.Core.List.{List, [], _∷_, _++_, append-assoc}
+use mathlib.Core.Bool.{Bool, true, false, cond, _||_}
+use lib.ListN.{length, take, drop, length-append, length-take, length-drop}
+use lib.Seq.{take-at, drop-at}
+use lib.Dec.{ltb, eqb}
+use Rattle.laws.specs.Tests.{firstOf}
+use Rattle.laws.specs.Lending.{splice}
+use Rattle.laws.proofs.Choice.{or-left, or-right}
+use Rattle.laws.proofs.Every.{Every}
+use Rattle.definition.specs.Refusals.{noRoom}
+use Rattle.definition.specs.Visits.{outcome, numberOf, countOf}
+use Rattle.definition.specs.declared.Answer.{Answer}
+use Rattle.definition.specs.declared.Answer.the-variants.{Done, Refused, Complex}
+use Rattle.promises.specs.Calls.{Refusal, by-number, by-opcode, Written}
+
+-- where the first of some tests gives 0, and none of their numbers is 0, none holds
+pub none-holds : (ts : List (Bool × ℕ)) → Every (λ t. t .1 ≡ 0 → ⊥) ts → firstOf ts ≡ 0 → Every (λ t. t .0 ≡ false) ts
+unfolding firstOf
+none-holds [] n e = tt
+none-holds (t ∷ ts) n e = go (t .0) refl (λ h. none-holds ts (n .1) h)
+  where
+    go : (b : Bool) → t .0 ≡ b → (firstOf ts ≡ 0 → Every (λ t. t .0 ≡ false) ts) → Every (λ t. t .0 ≡ false) (t ∷ ts)
+    go true h k = absurd (n .0 (rw h at e))
+    go false h k = (h, k (rw h at e))
+
+-- the two parts of an outcome, and the answers apart
+buffers : {a c : Answer} {p q : List ℕ} → _≡_ {A = Answer × List ℕ} (a, p) (c, q) → p ≡ q
+buffers e = ap (λ (r : Answer × List ℕ). r .1) e
+
+answers : {a c : Answer} {p q : List ℕ} → _≡_ {A = Answer × List ℕ} (a, p) (c, q) → a ≡ c
+answers e = ap (λ (r : Answer × List ℕ). r .0) e
+
+count-is : (n m : ℕ) → Done n ≡ Done m → n ≡ m
+count-is n m e = ap countOf e
+
+pub not-refused : (n k : ℕ) → Done n ≡ Refused k → ⊥
+not-refused n k e = let z : _≡_ {A = ℕ} 0 1 = cc in omega arith
+
+pub not-complex : (n o : ℕ) → Done n ≡ Complex o → ⊥
+not-complex n o e = let z : _≡_ {A = ℕ} 0 1 = cc in omega arith
+
+module _ (k o : ℕ) (l p : List ℕ) (s : ℕ) where
+  abbrev chosen : Bool → Bool → Answer × List ℕ
+  chosen t u = cond t (Done (length l), splice p s l) (cond u (Complex o, p) (Refused k, p))
+
+  -- the answer's number is the refusal's
+  pub number-is : numberOf (outcome k o l p s .0) ≡ k
+  unfolding outcome
+  number-is = go (eqb k 0) (eqb k 4) refl refl
+    where
+      go : (t u : Bool) → eqb k 0 ≡ t → eqb k 4 ≡ u → numberOf (chosen t u .0) ≡ k
+      go true u e h = sym (eqb-true k 0 e)
+      go false true e h = sym (eqb-true k 4 h)
+      go false false e h = refl
+
+  pub done-is : (n : ℕ) (new : List ℕ) → outcome k o l p s ≡ (Done n, new) → (k ≡ 0) × (n ≡ length l) × (new ≡ splice p s l)
+  unfolding outcome
+  done-is n new e = go (eqb k 0) (eqb k 4) refl e
+    where
+      go : (t u : Bool) → eqb k 0 ≡ t → chosen t u ≡ (Done n, new) → (k ≡ 0) × (n ≡ length l) × (new ≡ splice p s l)
+      go true u h e = (eqb-true k 0 h, sym (count-is (length l) n (answers e)), sym (buffers e))
+      go false true h e = absurd (not-complex n o (sym (answers e)))
+      go false false h e = absurd (not-refused n k (sym (answers e)))
+
+  pub refused-is : (a : Answer) (new : List ℕ) → Refusal a → outcome k o l p s ≡ (a, new) → new ≡ p
+  unfolding outcome
+  refused-is a new r e = go (eqb k 0) (eqb k 4) a r e
+    where
+      go : (t u : Bool) (a : Answer) → Refusal a → chosen t u ≡ (a, new) → new ≡ p
+      go true u a (by-number {k = j}) e = absurd (not-refused (length l) j (answers e))
+      go true u a (by-opcode {o = j}) e = absurd (not-complex (length l) j (answers e))
+      go false true a r e = sym (buffers e)
+      go false false a r e = sym (buffers e)
+
+-- bytes laid over a buffer that has room for them
+pub spliced : (l p : List ℕ) (s : ℕ) → noRoom (length l) p s ≡ false → Written l p (splice p s l) s (length l)
+unfolding splice noRoom
+spliced l p s h =
+    let a : s ≤ length p = ltb-false (length p) s (or-left (ltb (length p) s) _ h) in
+    let b : length l ≤ length p - s = ltb-false (length p - s) (length l) (or-right (ltb (length p) s) _ h) in
+    let e : length (take s p) ≡ s = simp length-take (omega arith) in
+    let front : length (take s p ++ l) ≡ s + length l = simp (length-append, length-take) (omega arith) in
+    record {
+      count = refl;
+      long = simp (length-append, length-drop, length-take) (omega arith);
+      before = rw (append-assoc (take s p) l (drop (s + length l) p)) (take-at (take s p) (l ++ drop (s + length l) p) s e);
+      inside =
+          rw (append-assoc (take s p) l (drop (s + length l) p), drop-at (take s p) (l ++ drop (s + length l) p) s e)
+          (take-at l (drop (s + length l) p) (length l) refl);
+      behind = drop-at (take s p ++ l) (drop (s + length l) p) (s + length l) front;
+    }

@@ -1,0 +1,162 @@
+-- Every statement of specs/Promises.antt, proved.
+use Prim.Native.Nat.{ℕ, _+_, _-_, _≤_}
+use native.Mathlib.Omega.{arith}
+use borrow.Author.Tests.{le-ltb}
+use mathlib.Core.Path.{_≡_, refl, sym, _∙_}
+use mathlib.Core.List.{List, [], _∷_}
+use mathlib.Core.Bool.{Bool, true, false, not, cond, _||_}
+use lib.ListN.{length}
+use lib.Dec.{ltb}
+use Rattle.laws.specs.Tests.{firstOf}
+use Rattle.registers.specs.Files.{fileOf, isFile}
+use Rattle.record.specs.Records.{isRecord, recordOf, outside}
+use Rattle.definition.specs.Behaviors.{complex}
+use Rattle.definition.specs.Logs.{bytesOf}
+use Rattle.definition.specs.Refusals.{nameless, sizeless, noRoom}
+use Rattle.definition.specs.Visits.{fixedRecord, logOf, refusalOf, visitBy}
+use Rattle.definition.specs.Listings.{listingOf, listingRefusal, listingCall}
+use Rattle.definition.proofs.Bounds.{log-bytes, log-events}
+use Rattle.definition.proofs.ListingBound.{listing-bytes}
+use Rattle.promises.specs.Promises as promised
+use Rattle.promises.proofs.Demands.{room-enough, by-refines, by-agrees}
+use Rattle.promises.proofs.Outcomes.{none-holds, number-is, refused-is}
+use Rattle.promises.proofs.RoundTrip.{round-trip}
+use Rattle.promises.proofs.Whole.{visit-written, visit-reads, visit-reads-inside, listing-written}
+use Rattle.promises.proofs.Unknown.{unknown-to, unknown-from}
+use Rattle.promises.proofs.Opened.{opened}
+use Rattle.promises.proofs.Tables as tables
+use Rattle.promises.proofs.Wrong as wrong
+
+pub more-known-refines : promised.MoreKnownRefines
+more-known-refines b f g p q s t hf hg more hp hq = rw (hf, hg) (by-refines false b (fileOf f) (fileOf g) p q s t more hp hq)
+
+pub more-known-refines-under : promised.MoreKnownRefinesUnder
+more-known-refines-under b f g p q s t more hp hq = by-refines false b f g p q s t more hp hq
+
+pub agreement-decides : promised.AgreementDecides
+agreement-decides b f g p s hf hg h = rw (hf, hg) (by-agrees false b (fileOf f) (fileOf g) p s h)
+
+pub agreement-decides-under : promised.AgreementDecidesUnder
+agreement-decides-under b f g p s h = by-agrees false b f g p s h
+
+pub unknown-exactly : promised.UnknownExactly
+unknown-exactly f a = (unknown-to f a, unknown-from f a)
+
+pub log-is-short : promised.LogBytes
+log-is-short f x = log-bytes f x
+
+pub log-has-few : promised.LogEvents
+log-has-few f x = log-events f x
+
+pub listing-is-short : promised.ListingBytes
+listing-is-short x = listing-bytes x
+
+-- a table that ends in 7 gives another number where that last test fails
+visit-not-7 : (t1 t2 t3 t4 t5 t6 : Bool) → firstOf ((t1, 1) ∷ (t2, 2) ∷ (t3, 3) ∷ (t4, 4) ∷ (t5, 5) ∷ (t6, 6) ∷ (false, 7) ∷ []) ≡ 7 → ⊥
+unfolding firstOf
+visit-not-7 true t2 t3 t4 t5 t6 e = omega arith
+visit-not-7 false true t3 t4 t5 t6 e = omega arith
+visit-not-7 false false true t4 t5 t6 e = omega arith
+visit-not-7 false false false true t5 t6 e = omega arith
+visit-not-7 false false false false true t6 e = omega arith
+visit-not-7 false false false false false true e = omega arith
+visit-not-7 false false false false false false e = omega arith
+
+listing-not-7 : (t1 t2 t4 : Bool) → firstOf ((t1, 1) ∷ (t2, 2) ∷ (t4, 4) ∷ (false, 7) ∷ []) ≡ 7 → ⊥
+unfolding firstOf
+listing-not-7 true t2 t4 e = omega arith
+listing-not-7 false true t4 e = omega arith
+listing-not-7 false false true e = omega arith
+listing-not-7 false false false e = omega arith
+
+visit-has-room : (b f p : List ℕ) (s : ℕ) → s + 177 ≤ length p → refusalOf (not (isFile f)) b (fileOf f) p s ≡ 7 → ⊥
+unfolding refusalOf
+visit-has-room b f p s h e =
+    visit-not-7 (not (isRecord b)) (outside (recordOf b)) (not (isFile f)) (complex (fixedRecord b)) (nameless (fixedRecord b)) (sizeless (fixedRecord b))
+    (rw (room-enough b (fileOf f) p s h) at e)
+
+listing-room : (b p : List ℕ) (s : ℕ) → s + 34 ≤ length p → noRoom (length (listingOf (fixedRecord b))) p s ≡ false
+unfolding noRoom
+listing-room b p s h =
+    simp (
+      le-ltb (length p) s (omega arith),
+      le-ltb (length p - s) (length (listingOf (fixedRecord b))) (omega (arith, listing-bytes (fixedRecord b))),
+    )
+
+listing-has-room : (b p : List ℕ) (s : ℕ) → s + 34 ≤ length p → listingRefusal b p s ≡ 7 → ⊥
+unfolding listingRefusal
+listing-has-room b p s h e =
+    listing-not-7 (not (isRecord b)) (outside (recordOf b)) (complex (fixedRecord b)) (rw (listing-room b p s h) at e)
+
+pub first-refusal : promised.FirstRefusal
+unfolding visitBy listingCall
+first-refusal b f p s = (
+  number-is (refusalOf (not (isFile f)) b (fileOf f) p s) (recordOf b .opcode) (bytesOf (logOf b (fileOf f))) p s,
+  number-is (listingRefusal b p s) (recordOf b .opcode) (listingOf (fixedRecord b)) p s,
+)
+
+pub room-suffices : promised.RoomSuffices
+room-suffices b f p s =
+    ((λ h e. visit-has-room b f p s h (sym (first-refusal b f p s .0) ∙ e)), (λ h e. listing-has-room b p s h (sym (first-refusal b f p s .1) ∙ e)))
+
+pub bounds-reached : promised.BoundsReached
+unfolding opened
+bounds-reached = (refl, refl, refl, refl, refl)
+
+pub every-call-determined : promised.EveryCallDetermined
+every-call-determined b f p g s =
+    (λ o u h k. h ∙ sym k, λ o u h k. h ∙ sym k, λ o u h k. h ∙ sym k, λ o u h k. h ∙ sym k, λ o u h k. h ∙ sym k, λ o u h k. h ∙ sym k, λ o u h k. h ∙ sym k)
+
+pub refused-leaves : promised.RefusedLeaves
+unfolding visitBy listingCall
+refused-leaves b f p s a new r = (
+  (λ e. refused-is (refusalOf (not (isFile f)) b (fileOf f) p s) (recordOf b .opcode) (bytesOf (logOf b (fileOf f))) p s a new r e),
+  (λ e. refused-is (listingRefusal b p s) (recordOf b .opcode) (listingOf (fixedRecord b)) p s a new r e),
+)
+
+pub only-the-log-changes : promised.OnlyTheLogChanges
+only-the-log-changes b f p s n new =
+    ((λ e. visit-written (not (isFile f)) b (fileOf f) p s n new e), (λ e. listing-written b p s n new e))
+
+pub events-read-back : promised.EventsReadBack
+events-read-back e l h a = round-trip e l h a
+
+pub logs-read-back : promised.LogsReadBack
+logs-read-back b f p s n new e =
+    (visit-reads (not (isFile f)) b (fileOf f) p s n new e, visit-reads-inside (not (isFile f)) b (fileOf f) p s n new e)
+
+pub bench-holds : promised.BenchHolds
+bench-holds = tables.bench-holds
+
+pub beyond-holds : promised.BeyondHolds
+beyond-holds =
+    (tables.widening-holds, tables.masking-holds, tables.leas-holds, tables.ordering-holds, tables.addressing-holds, tables.malformed-holds, tables.refusing-holds)
+
+pub answers-hold : promised.AnswersHold
+answers-hold =
+    (tables.listings-hold, tables.digests-hold, tables.exceptions-hold, tables.privileges-hold, tables.readings-hold, tables.vectors-hold, tables.may-holds, tables.setters-hold)
+
+pub sweeps-hold : promised.SweepsHold
+sweeps-hold =
+    (tables.lists-hold, tables.reads-hold, tables.writes-hold, tables.opcodes-hold, tables.banks-hold, tables.widths-hold, tables.values-hold, tables.memory-lists-hold)
+
+pub not-refusing-all : promised.NotRefusingAll
+not-refusing-all = wrong.not-refusing-all
+
+pub not-one-log : promised.NotOneLog
+not-one-log = wrong.not-one-log
+
+pub not-untouched : promised.NotUntouched
+not-untouched = wrong.not-untouched
+
+pub not-operand-0-alone : promised.NotOperand0Alone
+not-operand-0-alone = wrong.not-operand-0-alone
+
+pub count-is-the-length : promised.CountIsTheLength
+count-is-the-length = wrong.count-is-the-length
+
+pub not-one-count : promised.NotOneCount
+not-one-count = wrong.not-one-count
+
+pub not-all-unknown : promised.NotAllUnknown
+not-all-unknown = wrong.not-all-unknown

@@ -1,0 +1,66 @@
+-- An address is unknown exactly when a register in it is. Assumes nothing.
+use Prim.Native.Nat.{ℕ}
+use native.Mathlib.Omega.{arith}
+use mathlib.Core.Path.{_≡_, refl, sym, ap, _∙_}
+use mathlib.Core.Logic.{⊎-elim, _⊎_, inl, inr}
+use mathlib.Core.List.{List, [], _∷_, _++_, List·Memᴰ, List·Memᴰ·head, List·Memᴰ·eq-of-singleton, List·Memᴰ·not-nil, List·Memᴰ·append-cases, Memᴰ·append-left, Memᴰ·append-right}
+use Rattle.registers.specs.Files.{after, valueOf}
+use Rattle.registers.specs.declared.RegSpec.{RegSpec}
+use Rattle.registers.specs.declared.RegisterFile.{RegisterFile}
+use Rattle.registers.specs.declared.Value.{Value}
+use Rattle.registers.specs.declared.Value.the-variants.{Known, Unknown}
+use Rattle.definition.specs.Addresses.{word, termRegisters, registersOf, termOf, placeOf, addressOf}
+use Rattle.definition.specs.declared.Address.{Address}
+use Rattle.definition.specs.declared.Term.{Term}
+use Rattle.definition.specs.declared.Term.the-variants.{Absent, Plain, Scaled}
+
+abbrev Some : RegisterFile → List RegSpec → Type 0
+Some f ys = (y : RegSpec) × List·Memᴰ y ys × (valueOf f y ≡ Unknown)
+
+known-not : (v : ℕ) → Known v ≡ Unknown → ⊥
+known-not v e = let z : _≡_ {A = ℕ} 0 1 = cc in omega arith
+
+after-unknown : (v : Value) (k : ℕ → Value) → v ≡ Unknown → after v k ≡ Unknown
+after-unknown v k e = rw e
+
+-- what is unknown after a value is so by the value, or by what it gives
+after-either : (v : Value) (k : ℕ → Value) → after v k ≡ Unknown → (v ≡ Unknown) ⊎ ((n : ℕ) × (k n ≡ Unknown))
+after-either (Known v) k e = inr (v, e)
+after-either Unknown k e = inl refl
+
+module _ (f : RegisterFile) where
+  term-to : (t : Term) → termOf f t ≡ Unknown → Some f (termRegisters t)
+  unfolding termOf termRegisters
+  term-to Absent e = absurd (known-not 0 e)
+  term-to (Plain y) e = (y, List·Memᴰ·head refl, e)
+  term-to (Scaled y k) e =
+      ⊎-elim (λ h. (y, List·Memᴰ·head refl, h)) (λ h. absurd (known-not _ (h .1))) (after-either (valueOf f y) _ e)
+
+  term-from : (t : Term) → Some f (termRegisters t) → termOf f t ≡ Unknown
+  unfolding termOf termRegisters
+  term-from Absent s = absurd (List·Memᴰ·not-nil (s .1))
+  term-from (Plain y) s = ap (valueOf f) (sym (List·Memᴰ·eq-of-singleton (s .1))) ∙ s .2
+  term-from (Scaled y k) s = after-unknown (valueOf f y) _ (ap (valueOf f) (sym (List·Memᴰ·eq-of-singleton (s .1))) ∙ s .2)
+
+  second-unknown : (v : Value) (k : ℕ → Value) → ((n : ℕ) → k n ≡ Unknown) → after v k ≡ Unknown
+  second-unknown (Known v) k h = h v
+  second-unknown Unknown k h = refl
+
+  pub unknown-to : (a : Address) → addressOf f a ≡ Unknown → Some f (registersOf a)
+  unfolding addressOf registersOf
+  unknown-to a e =
+      ⊎-elim
+      (λ h. let s = term-to (a .base) h in (s .0, Memᴰ·append-left (termRegisters (a .index)) (s .1), s .2))
+      (λ h. ⊎-elim
+      (λ g. let s = term-to (a .index) g in (s .0, Memᴰ·append-right (termRegisters (a .base)) (s .1), s .2))
+      (λ g. absurd (known-not _ (g .1)))
+      (after-either (termOf f (a .index)) _ (h .1)))
+      (after-either (termOf f (a .base)) _ e)
+
+  pub unknown-from : (a : Address) → Some f (registersOf a) → addressOf f a ≡ Unknown
+  unfolding addressOf registersOf
+  unknown-from a s =
+      ⊎-elim
+      (λ m. after-unknown (termOf f (a .base)) _ (term-from (a .base) (s .0, m, s .2)))
+      (λ m. second-unknown (termOf f (a .base)) _ (λ u. after-unknown (termOf f (a .index)) _ (term-from (a .index) (s .0, m, s .2))))
+      (List·Memᴰ·append-cases (termRegisters (a .base)) (s .1))

@@ -1,0 +1,215 @@
+-- WHAT IS PROMISED of the definitions, each statement after its sentence. proofs/Proved.antt proves them all; nothing is assumed.
+-- The words that the statements use stand in Refinement.antt (files and events), Calls.antt (calls) and Rows.antt (tables).
+use Prim.Native.Nat.{ℕ, _+_, _≤_}
+use mathlib.Core.Path.{_≡_}
+use mathlib.Core.List.{List, [], _∷_, _++_, List·Memᴰ}
+use mathlib.Core.Logic.{_⊎_, _↔_}
+use mathlib.Core.Bool.{true, not}
+use lib.ListN.{length, take, drop, set}
+use Rattle.laws.specs.Lending.{splice}
+use Rattle.registers.specs.Files.{fileOf, isFile, valueOf}
+use Rattle.registers.specs.declared.RegSpec.{RegSpec}
+use Rattle.registers.specs.declared.RegisterFile.{RegisterFile}
+use Rattle.registers.specs.declared.Value.the-variants.{Unknown}
+use Rattle.record.specs.declared.Record.{Record}
+use Rattle.definition.specs.Addresses.{registersOf, addressOf}
+use Rattle.definition.specs.Behaviors.{digestCall, privilegeCall, exceptionsCall}
+use Rattle.definition.specs.Steps.{stepsOf}
+use Rattle.definition.specs.Logs.{eventsOf, eventBytes, bytesOf}
+use Rattle.definition.specs.Visits.{fixedRecord, logOf, refusalOf, visitUnder, visitOf, numberOf}
+use Rattle.definition.specs.Listings.{listingOf, listingRefusal, listingCall}
+use Rattle.definition.specs.Readings.{isEvent, readFront, readAt, Reads}
+use Rattle.definition.specs.declared.Address.{Address}
+use Rattle.definition.specs.declared.Answer.{Answer}
+use Rattle.definition.specs.declared.Answer.the-variants.{Done, Refused}
+use Rattle.definition.specs.declared.Event.{Event}
+use Rattle.definition.specs.declared.Reading.the-variants.{Found}
+use Rattle.promises.specs.Refinement.{Extends, AgreeOn}
+use Rattle.promises.specs.Calls.{Refusal, Alike, Written, ReadsFrom, Addressable, Program, OneOutcome}
+use Rattle.promises.specs.Rows.{recordWith, fileWith, buffer, Visited, Listed, Gives}
+use Rattle.promises.specs.Bench.{bench}
+use Rattle.promises.specs.Beyond.{widening, masking, leas, ordering, addressing, malformed, refusing}
+use Rattle.promises.specs.Answers.{listings, digestFor, digests, exceptionsFor, exceptions, privilegeFor, privileges, readingFrom, readings, vectors, vector-rows, may, may-rows, setter, setter-rows}
+use Rattle.promises.specs.Sweeps.{every-list, every-spec-read, every-spec-written, fixedBy, every-opcode, namedIn, every-bank, mulOf, every-width, valueIn, every-value, atSize0, every-memory-list}
+use Rattle.promises.specs.Fullest.{fullest, fullest-file}
+
+-- DEMAND 3, FIRST HALF. Under a file that knows more, with 177 bytes of room on both sides, a visit is refused as before, number
+-- and opcode, and leaves the buffer; or it logs the same events in the same order, but for unknown addresses that are filled in.
+abbrev pub MoreKnownRefines : Type 0
+MoreKnownRefines =
+    (b f g p q : List ℕ) (s t : ℕ)
+    → isFile f ≡ true → isFile g ≡ true → Extends (fileOf f) (fileOf g)
+    → s + 177 ≤ length p → t + 177 ≤ length q
+    → Alike (visitOf b f p s) (visitOf b g q t) p q s t (logOf b (fileOf f)) (logOf b (fileOf g))
+
+-- the same under files that are parsed already
+abbrev pub MoreKnownRefinesUnder : Type 0
+MoreKnownRefinesUnder =
+    (b : List ℕ) (f g : RegisterFile) (p q : List ℕ) (s t : ℕ)
+    → Extends f g → s + 177 ≤ length p → t + 177 ≤ length q
+    → Alike (visitUnder b f p s) (visitUnder b g q t) p q s t (logOf b f) (logOf b g)
+
+-- DEMAND 3, SECOND HALF. Files that answer alike every register that the log reads give the same answer and the same buffer,
+-- whatever the room.
+abbrev pub AgreementDecides : Type 0
+AgreementDecides =
+    (b f g p : List ℕ) (s : ℕ)
+    → isFile f ≡ true → isFile g ≡ true → AgreeOn (fileOf f) (fileOf g) (logOf b (fileOf f))
+    → visitOf b f p s ≡ visitOf b g p s
+
+abbrev pub AgreementDecidesUnder : Type 0
+AgreementDecidesUnder =
+    (b : List ℕ) (f g : RegisterFile) (p : List ℕ) (s : ℕ)
+    → AgreeOn f g (logOf b f) → visitUnder b f p s ≡ visitUnder b g p s
+
+-- UNKNOWN EXACTLY. An address is unknown exactly when a register in it is.
+abbrev pub UnknownExactly : Type 0
+UnknownExactly =
+    (f : RegisterFile) (a : Address)
+    → (addressOf f a ≡ Unknown) ↔ ((y : RegSpec) × List·Memᴰ y (registersOf a) × (valueOf f y ≡ Unknown))
+
+-- BOUNDS. No log is longer than 177 bytes or has more than 38 events, and no listing is longer than 34 bytes, for every record,
+-- refused or not, and every file.
+abbrev pub LogBytes : Type 0
+LogBytes = (f : RegisterFile) (x : Record) → length (bytesOf (eventsOf f (stepsOf x))) ≤ 177
+
+abbrev pub LogEvents : Type 0
+LogEvents = (f : RegisterFile) (x : Record) → length (eventsOf f (stepsOf x)) ≤ 38
+
+abbrev pub ListingBytes : Type 0
+ListingBytes = (x : Record) → length (listingOf x) ≤ 34
+
+-- so with so much room no call is refused 7
+abbrev pub RoomSuffices : Type 0
+RoomSuffices =
+    (b f p : List ℕ) (s : ℕ)
+    → (s + 177 ≤ length p → numberOf (visitOf b f p s .0) ≡ 7 → ⊥)
+    × (s + 34 ≤ length p → numberOf (listingCall b p s .0) ≡ 7 → ⊥)
+
+-- Each bound is reached, by one record: a visit that writes 177 bytes of 38 events, a listing of 34 bytes; one byte less is refused.
+abbrev pub BoundsReached : Type 0
+BoundsReached =
+    (visitOf fullest fullest-file (buffer 177) 0 .0 ≡ Done 177)
+    × (length (logOf fullest (fileOf fullest-file)) ≡ 38)
+    × (listingCall fullest (buffer 34) 0 .0 ≡ Done 34)
+    × (visitOf fullest fullest-file (buffer 176) 0 ≡ (Refused 7, buffer 176))
+    × (listingCall fullest (buffer 33) 0 ≡ (Refused 7, buffer 33))
+
+-- ONE OUTCOME. Any two outcomes that a call's contract allows are equal: answer, count and every byte lent.
+abbrev pub EveryCallDetermined : Type 0
+EveryCallDetermined =
+    (b f p : List ℕ) (g : RegisterFile) (s : ℕ)
+    → OneOutcome (visitOf b f p s)
+    × OneOutcome (visitUnder b g p s)
+    × OneOutcome (listingCall b p s)
+    × OneOutcome (digestCall b)
+    × OneOutcome (privilegeCall b)
+    × OneOutcome (exceptionsCall b)
+    × OneOutcome (readAt p s)
+
+-- THE REFUSAL TABLE. An answer's number is that of the first test of the table that holds, and 0 where none does.
+abbrev pub FirstRefusal : Type 0
+FirstRefusal =
+    (b f p : List ℕ) (s : ℕ)
+    → (numberOf (visitOf b f p s .0) ≡ refusalOf (not (isFile f)) b (fileOf f) p s)
+    × (numberOf (listingCall b p s .0) ≡ listingRefusal b p s)
+
+-- A refused call leaves the buffer as it was.
+abbrev pub RefusedLeaves : Type 0
+RefusedLeaves =
+    (b f p : List ℕ) (s : ℕ) (a : Answer) (new : List ℕ)
+    → Refusal a
+    → (visitOf b f p s ≡ (a, new) → new ≡ p)
+    × (listingCall b p s ≡ (a, new) → new ≡ p)
+
+-- A call that is not refused writes its n bytes from the start on, n is their number, and all else in the buffer stays.
+abbrev pub OnlyTheLogChanges : Type 0
+OnlyTheLogChanges =
+    (b f p : List ℕ) (s n : ℕ) (new : List ℕ)
+    → (visitOf b f p s ≡ (Done n, new) → Written (bytesOf (logOf b (fileOf f))) p new s n)
+    × (listingCall b p s ≡ (Done n, new) → Written (listingOf (fixedRecord b)) p new s n)
+
+-- ROUND TRIP. The reader gives back what a writer's bytes are, whatever stands behind them.
+abbrev pub EventsReadBack : Type 0
+EventsReadBack =
+    (e : Event) (l : List ℕ)
+    → isEvent e ≡ true → Addressable e → readFront (eventBytes e ++ l) ≡ Found e (length (eventBytes e))
+
+-- What a visit wrote reads whole, as its events: cut out of the buffer, and in the buffer from the start up to n further.
+abbrev pub LogsReadBack : Type 0
+LogsReadBack =
+    (b f p : List ℕ) (s n : ℕ) (new : List ℕ)
+    → visitOf b f p s ≡ (Done n, new)
+    → Reads (take n (drop s new)) (logOf b (fileOf f)) × ReadsFrom new s (logOf b (fileOf f)) (s + n)
+
+-- TABLES. P1 to P11 of document 01.
+abbrev pub BenchHolds : Type 0
+BenchHolds = Visited bench
+
+-- What P1 to P11 do not see of visiting: the four errors that look reasonable, masks, LEA, orders, addresses, refusals and room.
+abbrev pub BeyondHolds : Type 0
+BeyondHolds =
+    Visited widening × Visited masking × Visited leas × Visited ordering × Visited addressing × Visited malformed × Visited refusing
+
+-- What the other calls and the setters answer.
+abbrev pub AnswersHold : Type 0
+AnswersHold =
+    Listed listings
+    × Gives digestFor digests
+    × Gives exceptionsFor exceptions
+    × Gives privilegeFor privileges
+    × Gives readingFrom readings
+    × Gives vectors vector-rows
+    × Gives may may-rows
+    × Gives setter setter-rows
+
+-- Every list, spec, opcode and bank once.
+abbrev pub SweepsHold : Type 0
+SweepsHold =
+    Visited every-list
+    × Visited every-spec-read
+    × Visited every-spec-written
+    × Gives fixedBy every-opcode
+    × Gives namedIn every-bank
+    × Gives mulOf every-width
+    × Gives valueIn every-value
+    × Gives atSize0 every-memory-list
+
+-- WRONG ANSWERS TRIED. A program meets the contract where its whole outcome is the defined one.
+abbrev pub Meets : Program → Type 0
+Meets v = (b f p : List ℕ) (s : ℕ) → v b f p s ≡ visitOf b f p s
+
+-- Refusing everything breaks the exact refusal table: P1 is not refused.
+abbrev pub NotRefusingAll : Type 0
+NotRefusingAll = (v : Program) → Meets v → ((b f p : List ℕ) (s : ℕ) → Refusal (v b f p s .0)) → ⊥
+
+-- One fixed log, wherever it does not refuse, breaks demand 2 at P1 or at P2.
+abbrev pub NotOneLog : Type 0
+NotOneLog =
+    (v : Program) → Meets v
+    → (l : List ℕ) → ((b f p : List ℕ) (s : ℕ) → Refusal (v b f p s .0) ⊎ (v b f p s .1 ≡ splice p s l)) → ⊥
+
+-- An untouched buffer breaks demand 2 at P1.
+abbrev pub NotUntouched : Type 0
+NotUntouched = (v : Program) → Meets v → ((b f p : List ℕ) (s : ℕ) → v b f p s .1 ≡ p) → ⊥
+
+-- A log right for operand 0 and hollow afterwards, whatever n it answers, breaks demand 2 at P2. (Byte 3 is the count.)
+abbrev pub NotOperand0Alone : Type 0
+NotOperand0Alone =
+    (v : Program) → Meets v → ((b f p : List ℕ) (s : ℕ) → v b f p s .1 ≡ visitOf (set b 3 1) f p s .1) → ⊥
+
+-- An invented n breaks demand 2, since n is the length of the defined log; one n for all logs breaks it at P1 or at P2.
+abbrev pub CountIsTheLength : Type 0
+CountIsTheLength =
+    (v : Program) → Meets v
+    → (b f p : List ℕ) (s n : ℕ) → v b f p s .0 ≡ Done n → n ≡ length (bytesOf (logOf b (fileOf f)))
+
+abbrev pub NotOneCount : Type 0
+NotOneCount =
+    (v : Program) → Meets v
+    → (n : ℕ) → ((b f p : List ℕ) (s : ℕ) → Refusal (v b f p s .0) ⊎ (v b f p s .0 ≡ Done n)) → ⊥
+
+-- An all-unknown log, that of a file that knows nothing, breaks demand 2 at P2, though demand 3 alone would let it pass.
+abbrev pub NotAllUnknown : Type 0
+NotAllUnknown =
+    (v : Program) → Meets v → ((b f p : List ℕ) (s : ℕ) → v b f p s .1 ≡ visitOf b (fileWith []) p s .1) → ⊥
