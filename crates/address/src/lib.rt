@@ -9,7 +9,6 @@ mod words;
 pub use named::apply_x86_zext;
 pub use named::fourth_of;
 pub use named::mask_for;
-pub use named::register_at;
 pub use named::slot_register;
 pub use operands::operand_address;
 pub use places::compute_addr;

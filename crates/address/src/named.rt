@@ -7,9 +7,6 @@ use definition::Term;
 use record::Record;
 use registers::RegSpec;
 ghost use mathlib.Core.Path.{_≡_};
-ghost use lib.ListN.{getD};
-ghost use Rattle.registers.specs.Banks.{reg};
-ghost use Rattle.record.specs.Records.{regAt};
 ghost use Rattle.definition.specs.Steps.{widened, fourthOf, maskFor};
 ghost use Rattle.address.specs.Slots.{slotTerm, specTerm};
 
@@ -17,16 +14,7 @@ ghost use Rattle.address.specs.Slots.{slotTerm, specTerm};
 pub fn slot_register(x: Record, slot: u8) -> Term
     ensures { λ r. ⌜ r ≡ slotTerm x slot ⌝ }
 {
-    let specs = x.specs;
-    spec_register(x, spec_at(specs, slot))
-}
-
-// Past the four specs there is nothing, so that no caller owes a bound.
-fn spec_at(specs: [u8; 4], slot: u8) -> u8
-    ensures { λ r. ⌜ r ≡ getD specs slot 0 ⌝ }
-{
-    let i = slot as usize;
-    if i < 4 { specs[i] } else { 0 }
+    spec_register(x, x.spec(slot))
 }
 
 fn spec_register(x: Record, spec: u8) -> Term
@@ -39,24 +27,6 @@ fn spec_register(x: Record, spec: u8) -> Term
         22 => Term::Plain(EDI),
         23 => Term::Plain(ESI),
         _ => Term::Absent,
-    }
-}
-
-pub fn register_at(x: Record, place: u8) -> RegSpec
-    ensures { λ r. ⌜ r ≡ regAt x place ⌝ }
-{
-    let regs = x.regs;
-    reg_at(regs, place)
-}
-
-fn reg_at(regs: [RegSpec; 4], place: u8) -> RegSpec
-    ensures { λ r. ⌜ r ≡ getD regs place (reg 0 0) ⌝ }
-{
-    let i = place as usize;
-    if i < 4 {
-        regs[i]
-    } else {
-        RegSpec { bank: 0, number: 0 }
     }
 }
 

@@ -1,19 +1,18 @@
 -- No log needs over 38 events or 177 bytes: one bound over what a register event and a memory event cost. It holds for every
 -- record, refused or not, and every file. Assumes nothing.
-use Prim.Native.Nat.{ℕ, zero, suc, _+_, _*_, _≤_, zero-le}
+use Prim.Native.Nat.{ℕ, _+_, _*_, _≤_, zero-le}
 use native.Mathlib.Omega.{arith}
 use native.Mathlib.Nat.{le-refl}
-use mathlib.Core.Path.{_≡_, refl, sym, ap}
-use mathlib.Core.List.{List, [], _∷_, _++_, map}
+use mathlib.Core.Path.{_≡_, refl}
+use mathlib.Core.List.{List, [], _∷_}
 use mathlib.Core.Bool.{Bool, true, false, cond}
-use lib.ListN.{length, take}
+use lib.ListN.{length}
 use lib.Dec.{T, eqb}
 use Rattle.laws.specs.Words.{little}
 use Rattle.laws.specs.Tests.{isIn}
 use Rattle.laws.specs.Lists.{each, flat}
 use Rattle.laws.specs.Lending.{size}
 use Rattle.access.specs.Accesses.{reading, writing}
-use Rattle.registers.specs.Banks.{reg}
 use Rattle.registers.specs.declared.RegSpec.{RegSpec}
 use Rattle.registers.specs.declared.RegisterFile.{RegisterFile}
 use Rattle.registers.specs.declared.Value.{Value}
@@ -31,12 +30,10 @@ use Rattle.record.specs.declared.Record.{Record}
 use Rattle.definition.specs.Limits.{mostEvents, mostBytes}
 use Rattle.definition.specs.Tables.{shapeOf, stringSpecs}
 use Rattle.definition.specs.Behaviors.{Operand, operandAt, operandsOf}
-use Rattle.definition.specs.Addresses.{termRegisters, registersOf, addressOf, baseOf, indexOf, operandAddress}
+use Rattle.definition.specs.Addresses.{termRegisters, registersOf, addressOf, baseOf, operandAddress}
 use Rattle.definition.specs.Steps.{Step, reads, writes, touches, moves, maskRegisters, maskFor, isLea, rflags, readPart, writePart, operandSteps, shapeBase, slotRegisters, implicitStep, entrySteps, flagSteps, stepsOf}
 use Rattle.definition.specs.Logs.{memoryEvent, stepEvents, eventsOf, eventBytes, bytesOf, stepBytes}
 use Rattle.definition.specs.declared.Address.{Address}
-use Rattle.definition.specs.declared.Base.{Base}
-use Rattle.definition.specs.declared.Displacement.{Displacement}
 use Rattle.definition.specs.declared.Term.{Term}
 use Rattle.definition.specs.declared.Term.the-variants.{Absent, Plain, Scaled}
 use Rattle.definition.specs.declared.Shape.{Shape}

@@ -1,13 +1,11 @@
 -- No listing needs over 34 bytes, whatever the record. Assumes nothing.
-use Prim.Native.Nat.{ℕ, _+_, _≤_, zero-le}
+use Prim.Native.Nat.{ℕ, _≤_, zero-le}
 use native.Mathlib.Omega.{arith}
-use mathlib.Core.Path.{_≡_, refl}
-use mathlib.Core.List.{List, [], _∷_, _++_, map}
-use mathlib.Core.Bool.{cond}
-use lib.ListN.{length, take, length-append}
+use mathlib.Core.List.{[], _∷_}
+use lib.ListN.{length, take}
 use lib.Dec.{eqb}
 use Rattle.laws.specs.Words.{little}
-use Rattle.laws.specs.Lists.{each, flat}
+use Rattle.laws.specs.Lists.{flat}
 use Rattle.laws.specs.Lending.{size}
 use Rattle.digest.specs.Digests.{flagsAccess}
 use Rattle.implicit.specs.Lists.{implicits, implicitOf}

@@ -1,10 +1,10 @@
 -- What a writer wrote, the reader gives back: one event, at any place of a larger log, and a log of any length. Assumes nothing.
-use Prim.Native.Nat.{ℕ, _+_, _≤_, _<_, _^_}
+use Prim.Native.Nat.{ℕ, _+_, _<_, _^_}
 use native.Mathlib.Omega.{arith}
-use mathlib.Core.Path.{_≡_, refl, sym, ap, _∙_}
+use mathlib.Core.Path.{_≡_, refl, sym, ap}
 use mathlib.Core.Bool.{true}
 use mathlib.Core.List.{List, [], _∷_, _++_, append-nil}
-use lib.ListN.{length, getD, drop}
+use lib.ListN.{length, drop}
 use lib.Seq.{drop-at}
 use Rattle.laws.specs.Words.{numberAt, little}
 use Rattle.laws.specs.Lists.{each}
@@ -15,8 +15,8 @@ use Rattle.definition.specs.declared.Event.{Event}
 use Rattle.definition.specs.declared.Event.the-variants.{RegisterRead, RegisterWrite, MemoryRead, MemoryWrite, UnknownRead, UnknownWrite}
 use Rattle.definition.specs.declared.Reading.the-variants.{Found}
 use Rattle.definition.specs.Logs.{eventBytes, bytesOf}
-use Rattle.definition.specs.Readings.{bodyOf, frontEvent, isEvent, readFront, readAt, placed, Reads, end, next}
-use Rattle.event.specs.Held.{addressIn, Held}
+use Rattle.definition.specs.Readings.{bodyOf, frontEvent, isEvent, readFront, readAt, Reads, end, next}
+use Rattle.event.specs.Held.{Held}
 use Rattle.event.specs.declared.walk.Counted.the-variants.{All}
 use Rattle.event.specs.Counts.{countOf}
 use Rattle.event.proofs.Fronts.{body, front-whole}

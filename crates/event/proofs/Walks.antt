@@ -1,7 +1,7 @@
 -- A walk over a log, event by event. Assumes nothing.
 use Prim.Native.Nat.{ℕ, zero, suc, _+_, _-_, _≤_, _<_}
 use native.Mathlib.Omega.{arith}
-use native.Mathlib.Nat.{add-zero, add-assoc, sub-zero}
+use native.Mathlib.Nat.{add-zero, sub-zero}
 use mathlib.Core.Path.{_≡_, refl, sym, ap, _∙_}
 use mathlib.Core.Logic.{⊎-elim, _⊎_}
 use mathlib.Core.List.{List, [], _∷_}
@@ -12,7 +12,7 @@ use Rattle.definition.proofs.Reading.{enum}
 use Rattle.definition.specs.declared.Event.{Event}
 use Rattle.definition.specs.declared.Reading.{Reading}
 use Rattle.definition.specs.declared.Reading.the-variants.{Found, Bad, Finished}
-use Rattle.definition.specs.Readings.{readFront, readAt, placed, Reads, end, next}
+use Rattle.definition.specs.Readings.{readAt, Reads, end, next}
 use Rattle.event.specs.declared.walk.Counted.{Counted}
 use Rattle.event.specs.declared.walk.Counted.the-variants.{All}
 use Rattle.event.specs.Counts.{counted, endOf, countFrom, countOf}

@@ -6,7 +6,7 @@ ghost use mathlib.Core.Path.{_≡_};
 ghost use Prim.Native.Nat.{_<_};
 ghost use lib.ListN.{length, getD};
 ghost use Rattle.definition.specs.Readings.{bodyOf, frontEvent, isEvent, isSize, readFront, readAt};
-ghost use Rattle.registers.specs.Banks.{reg, isLogged};
+ghost use Rattle.registers.specs.Banks.{reg};
 
 // The event at a place and the place after it, a refusal number, or the end: at or past the end of the log.
 pub fn read_event(log: &[u8], at: usize) -> Reading
@@ -87,8 +87,8 @@ fn is_event(e: Event) -> bool
     ensures { λ r. ⌜ r ≡ isEvent e ⌝ }
 {
     match e {
-        Event::RegisterRead(y) => is_logged(y.bank, y.number),
-        Event::RegisterWrite(y) => is_logged(y.bank, y.number),
+        Event::RegisterRead(y) => RegSpec::is_logged(y.bank, y.number),
+        Event::RegisterWrite(y) => RegSpec::is_logged(y.bank, y.number),
         Event::MemoryRead(_, n) => is_size(n),
         Event::MemoryWrite(_, n) => is_size(n),
         Event::UnknownRead(n) => is_size(n),
@@ -100,13 +100,4 @@ fn is_size(n: u8) -> bool
     ensures { λ r. ⌜ r ≡ isSize n ⌝ }
 {
     1 <= n && n <= 64
-}
-
-const LOGGED: [u8; 13] = [16, 16, 16, 16, 8, 32, 32, 32, 8, 1, 1, 1, 32];
-
-fn is_logged(bank: u8, number: u8) -> bool
-    ensures { λ r. ⌜ r ≡ isLogged bank number ⌝ }
-{
-    let b = bank as usize;
-    if b < 13 { number < LOGGED[b] } else { false }
 }

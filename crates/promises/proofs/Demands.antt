@@ -4,17 +4,16 @@ use native.Mathlib.Omega.{arith}
 use borrow.Author.Tests.{le-ltb}
 use mathlib.Core.Path.{_≡_, refl}
 use mathlib.Core.List.{List}
-use mathlib.Core.Bool.{Bool, true, false, not, cond, _||_}
+use mathlib.Core.Bool.{Bool, true, false}
 use lib.ListN.{length}
-use lib.Dec.{ltb, eqb}
-use Rattle.registers.specs.Files.{fileOf, isFile}
+use lib.Dec.{eqb}
 use Rattle.registers.specs.declared.RegisterFile.{RegisterFile}
 use Rattle.record.specs.Records.{recordOf}
 use Rattle.definition.specs.Steps.{stepsOf}
 use Rattle.definition.specs.Logs.{bytesOf}
 use Rattle.definition.specs.Refusals.{noRoom}
-use Rattle.definition.specs.Visits.{fixedRecord, logOf, refusalOf, outcome, visitBy, visitUnder, visitOf}
-use Rattle.definition.specs.declared.Answer.the-variants.{Done, Refused, Complex}
+use Rattle.definition.specs.Visits.{fixedRecord, logOf, refusalOf, outcome, visitBy}
+use Rattle.definition.specs.declared.Answer.the-variants.{Refused, Complex}
 use Rattle.definition.proofs.Bounds.{log-bytes}
 use Rattle.promises.specs.Refinement.{Extends, RefinesAll, AgreeOn}
 use Rattle.promises.specs.Calls.{by-number, by-opcode, Alike, refused, logged}

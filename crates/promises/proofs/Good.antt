@@ -6,16 +6,15 @@ use borrow.Author.Tests.{ltb-false, eqb-true, eqb-false, le-leb, lt-ltb, not-tru
 use mathlib.Core.Path.{_≡_, refl, sym, _∙_}
 use mathlib.Core.List.{List, [], _∷_, _++_, map}
 use mathlib.Core.Bool.{Bool, true, false, not, cond, _&&_, _||_}
-use lib.ListN.{getD, take}
-use lib.Dec.{ltb, leb, eqb, lit<, eqb·suc-zero}
+use lib.Dec.{eqb, lit<, eqb·suc-zero}
 use Rattle.laws.specs.Words.{bit}
 use Rattle.laws.specs.Tests.{any, isIn}
 use Rattle.laws.specs.Lists.{each, flat}
 use Rattle.laws.proofs.Choice.{or-left, or-right, and-left, and-right}
-use Rattle.laws.proofs.Every.{Every, every-append, every-take, every-at, every-cond, every-unless, every-if, every-weaken, any-false, every-map, every-each, tested, at}
+use Rattle.laws.proofs.Every.{Every, every-append, every-take, every-at, every-cond, every-unless, every-if, every-weaken, any-false, every-map, every-each, at}
 use Rattle.access.specs.Accesses.{reading, writing}
 use Rattle.registers.specs.Banks.{reg, isRegister, isLogged}
-use Rattle.registers.specs.Files.{after, valueOf}
+use Rattle.registers.specs.Files.{after}
 use Rattle.registers.specs.declared.RegSpec.{RegSpec}
 use Rattle.registers.specs.declared.RegisterFile.{RegisterFile}
 use Rattle.registers.specs.declared.Value.{Value}
@@ -41,12 +40,10 @@ use Rattle.definition.specs.declared.Address.{Address}
 use Rattle.definition.specs.declared.Base.{Base}
 use Rattle.definition.specs.declared.Base.the-variants.{NoBase, Based, Named}
 use Rattle.definition.specs.declared.Displacement.{Displacement}
-use Rattle.definition.specs.declared.Term.{Term}
-use Rattle.definition.specs.declared.Term.the-variants.{Absent, Plain, Scaled}
 use Rattle.definition.specs.declared.Shape.{Shape}
 use Rattle.definition.specs.declared.Shape.the-variants.{Nothing, Register, Fourth, Immediate, Memory}
 use Rattle.definition.specs.declared.Event.{Event}
-use Rattle.definition.specs.declared.Event.the-variants.{RegisterRead, RegisterWrite, MemoryRead, MemoryWrite, UnknownRead, UnknownWrite}
+use Rattle.definition.specs.declared.Event.the-variants.{RegisterRead}
 use Rattle.promises.specs.Calls.{Addressable}
 
 abbrev pub GoodEvent : Event → Type 0

@@ -4,9 +4,8 @@ use native.Mathlib.Omega.{arith}
 use borrow.Author.Tests.{le-ltb}
 use mathlib.Core.Path.{_≡_, refl, sym, _∙_}
 use mathlib.Core.List.{List, [], _∷_}
-use mathlib.Core.Bool.{Bool, true, false, not, cond, _||_}
+use mathlib.Core.Bool.{Bool, true, false, not}
 use lib.ListN.{length}
-use lib.Dec.{ltb}
 use Rattle.laws.specs.Tests.{firstOf}
 use Rattle.registers.specs.Files.{fileOf, isFile}
 use Rattle.record.specs.Records.{isRecord, recordOf, outside}
@@ -19,7 +18,7 @@ use Rattle.definition.proofs.Bounds.{log-bytes, log-events}
 use Rattle.definition.proofs.ListingBound.{listing-bytes}
 use Rattle.promises.specs.Promises as promised
 use Rattle.promises.proofs.Demands.{room-enough, by-refines, by-agrees}
-use Rattle.promises.proofs.Outcomes.{none-holds, number-is, refused-is}
+use Rattle.promises.proofs.Outcomes.{number-is, refused-is}
 use Rattle.promises.proofs.RoundTrip.{round-trip}
 use Rattle.promises.proofs.Whole.{visit-written, visit-reads, visit-reads-inside, listing-written}
 use Rattle.promises.proofs.Unknown.{unknown-to, unknown-from}
@@ -134,7 +133,7 @@ beyond-holds =
 
 pub answers-hold : promised.AnswersHold
 answers-hold =
-    (tables.listings-hold, tables.digests-hold, tables.exceptions-hold, tables.privileges-hold, tables.readings-hold, tables.vectors-hold, tables.may-holds, tables.setters-hold)
+    (tables.listings-hold, tables.digests-hold, tables.exceptions-hold, tables.privileges-hold, tables.readings-hold, tables.answer-numbers-hold, tables.reading-numbers-hold, tables.level-numbers-hold, tables.files-hold, tables.records-hold, tables.entries-hold, tables.vectors-hold, tables.any-holds, tables.may-holds, tables.setters-hold)
 
 pub sweeps-hold : promised.SweepsHold
 sweeps-hold =

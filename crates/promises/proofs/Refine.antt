@@ -1,17 +1,17 @@
 -- Demand 3 over lists of steps: a file that knows more gives events that refine, and files that agree on the registers read give
 -- the same events. Assumes nothing.
 use Prim.Native.Nat.{ℕ}
-use mathlib.Core.Path.{_≡_, refl, ap₂, fun-ext}
+use mathlib.Core.Path.{_≡_, refl, ap₂}
 use mathlib.Core.List.{List, [], _∷_, _++_, map, List·Memᴰ, List·Memᴰ·head, Memᴰ·append-left, Memᴰ·append-right, Memᴰ·map}
 use Rattle.laws.specs.Lists.{each, flat}
-use Rattle.registers.specs.Files.{partOf, slotOf, after, valueOf}
+use Rattle.registers.specs.Files.{partOf, slotOf, after, readPart, valueOf}
 use Rattle.registers.specs.declared.RegSpec.{RegSpec}
 use Rattle.registers.specs.declared.RegisterFile.{RegisterFile}
 use Rattle.registers.specs.declared.Value.{Value}
 use Rattle.registers.specs.declared.Value.the-variants.{Known, Unknown}
 use Rattle.implicit.specs.declared.Way.{Way}
 use Rattle.implicit.specs.declared.Way.the-variants.{Load, Store}
-use Rattle.definition.specs.Addresses.{word, termRegisters, registersOf, termOf, placeOf, addressOf}
+use Rattle.definition.specs.Addresses.{termRegisters, registersOf, termOf, addressOf}
 use Rattle.definition.specs.Steps.{maskRegisters, Step, reads, writes, touches}
 use Rattle.definition.specs.Logs.{memoryEvent, stepEvents, eventsOf}
 use Rattle.definition.specs.declared.Address.{Address}
@@ -49,7 +49,7 @@ memory-refines Store Unknown Unknown n e = same
 -- the first half
 module _ (f g : RegisterFile) (more : Extends f g) where
   value-gives : (y : RegSpec) → Gives (valueOf f y) (valueOf g y)
-  unfolding valueOf
+  unfolding valueOf readPart
   value-gives y = gives-after (slotOf f (partOf y .slot)) (slotOf g (partOf y .slot)) _ _ (more (partOf y .slot)) (λ n. refl)
 
   term-gives : (t : Term) → Gives (termOf f t) (termOf g t)

@@ -1,11 +1,11 @@
 -- What a writer wrote the reader reads: an event's bytes, with anything behind them. Assumes nothing.
-use Prim.Native.Nat.{ℕ, zero, suc, _+_, _*_, _^_, _/_, _%_, _<_, _≤_}
+use Prim.Native.Nat.{ℕ, _+_, _^_, _<_, _≤_}
 use native.Mathlib.Omega.{arith}
 use borrow.Author.Tests.{le-ltb}
 use mathlib.Core.Path.{_≡_, refl, ap}
-use mathlib.Core.List.{List, [], _∷_, _++_}
-use mathlib.Core.Bool.{true, false, cond, _||_}
-use lib.ListN.{length, getD}
+use mathlib.Core.List.{List, _∷_, _++_}
+use mathlib.Core.Bool.{true, false}
+use lib.ListN.{length}
 use lib.Dec.{eqb}
 use Rattle.laws.specs.Words.{numberAt, little}
 use Rattle.definition.specs.Logs.{eventBytes}

@@ -1,9 +1,11 @@
 -- Every row of the tables holds, by computing.
-use mathlib.Core.Path.{_≡_, refl}
-use Rattle.promises.specs.Rows.{Visited, Listed, Gives}
+use mathlib.Core.Path.{refl}
+use Rattle.access.specs.Privileges.{levelNumber}
+use Rattle.definition.specs.Readings.{readingNumber}
+use Rattle.promises.specs.Rows.{Visited, Listed, Table}
 use Rattle.promises.specs.Bench.{bench}
 use Rattle.promises.specs.Beyond.{widening, masking, leas, ordering, addressing, malformed, refusing}
-use Rattle.promises.specs.Answers.{listings, digestFor, digests, exceptionsFor, exceptions, privilegeFor, privileges, readingFrom, readings, vectors, vector-rows, may, may-rows, setter, setter-rows}
+use Rattle.promises.specs.Answers.{listings, digestFor, digests, exceptionsFor, exceptions, privilegeFor, privileges, readingFrom, readings, numbersOf, answer-numbers, reading-numbers, level-numbers, fileFor, files, recordFor, records, entryFor, entries, any-none, any-rows, vectors, vector-rows, may, may-rows, setter, setter-rows}
 use Rattle.promises.specs.Sweeps.{every-list, every-spec-read, every-spec-written, fixedBy, every-opcode, namedIn, every-bank, mulOf, every-width, valueIn, every-value, atSize0, every-memory-list}
 use Rattle.promises.proofs.Opened.{opened}
 
@@ -43,31 +45,59 @@ pub listings-hold : Listed listings
 unfolding opened listings
 listings-hold = refl
 
-pub digests-hold : Gives digestFor digests
+pub digests-hold : Table digestFor digests
 unfolding opened digests
 digests-hold = refl
 
-pub exceptions-hold : Gives exceptionsFor exceptions
+pub exceptions-hold : Table exceptionsFor exceptions
 unfolding opened exceptions
 exceptions-hold = refl
 
-pub privileges-hold : Gives privilegeFor privileges
+pub privileges-hold : Table privilegeFor privileges
 unfolding opened privileges
 privileges-hold = refl
 
-pub readings-hold : Gives readingFrom readings
+pub readings-hold : Table readingFrom readings
 unfolding opened readings
 readings-hold = refl
 
-pub vectors-hold : Gives vectors vector-rows
+pub answer-numbers-hold : Table numbersOf answer-numbers
+unfolding answer-numbers
+answer-numbers-hold = refl
+
+pub reading-numbers-hold : Table readingNumber reading-numbers
+unfolding reading-numbers
+reading-numbers-hold = refl
+
+pub level-numbers-hold : Table levelNumber level-numbers
+unfolding level-numbers
+level-numbers-hold = refl
+
+pub files-hold : Table fileFor files
+unfolding opened files
+files-hold = refl
+
+pub records-hold : Table recordFor records
+unfolding opened records
+records-hold = refl
+
+pub entries-hold : Table entryFor entries
+unfolding opened entries
+entries-hold = refl
+
+pub any-holds : Table any-none any-rows
+unfolding any-rows
+any-holds = refl
+
+pub vectors-hold : Table vectors vector-rows
 unfolding opened vector-rows
 vectors-hold = refl
 
-pub may-holds : Gives may may-rows
+pub may-holds : Table may may-rows
 unfolding opened may-rows
 may-holds = refl
 
-pub setters-hold : Gives setter setter-rows
+pub setters-hold : Table setter setter-rows
 unfolding opened setter-rows
 setters-hold = refl
 
@@ -83,22 +113,22 @@ pub writes-hold : Visited every-spec-written
 unfolding opened every-spec-written
 writes-hold = refl
 
-pub opcodes-hold : Gives fixedBy every-opcode
+pub opcodes-hold : Table fixedBy every-opcode
 unfolding opened every-opcode
 opcodes-hold = refl
 
-pub banks-hold : Gives namedIn every-bank
+pub banks-hold : Table namedIn every-bank
 unfolding opened every-bank
 banks-hold = refl
 
-pub widths-hold : Gives mulOf every-width
+pub widths-hold : Table mulOf every-width
 unfolding opened every-width
 widths-hold = refl
 
-pub values-hold : Gives valueIn every-value
+pub values-hold : Table valueIn every-value
 unfolding opened every-value
 values-hold = refl
 
-pub memory-lists-hold : Gives atSize0 every-memory-list
+pub memory-lists-hold : Table atSize0 every-memory-list
 unfolding opened every-memory-list
 memory-lists-hold = refl

@@ -2,23 +2,34 @@
 use Prim.Native.Nat.{ℕ, _^_}
 use mathlib.Core.List.{List, [], _∷_}
 use mathlib.Core.Bool.{Bool, true, false}
-use Rattle.access.specs.Exceptions.{infoOf, setOf, mayOf}
+use Rattle.access.specs.Exceptions.{infoOf, anyOf, noneOf, setOf, mayOf}
 use Rattle.access.specs.declared.InfoAnswer.{InfoAnswer}
 use Rattle.access.specs.declared.MayAnswer.{MayAnswer}
 use Rattle.access.specs.declared.PrivilegeLevel.{PrivilegeLevel}
 use Rattle.access.specs.declared.PrivilegeLevel.the-variants.{Any, PL0, Special, Reserved}
 use Rattle.registers.specs.Banks as banks
+use Rattle.registers.specs.Files.{fileAnswer}
+use Rattle.registers.specs.declared.FileAnswer.{FileAnswer}
 use Rattle.digest.specs.Digests.{withPrivilege, withFlags, withNontrivial, withComplex, operandAnswer, listAnswer}
 use Rattle.digest.specs.declared.BehaviorDigest.{BehaviorDigest}
 use Rattle.digest.specs.declared.DigestAnswer.{DigestAnswer}
+use Rattle.implicit.specs.Lists.{entryAt}
+use Rattle.implicit.specs.declared.Way.the-variants.{Load, Store}
+use Rattle.implicit.specs.declared.ImplicitOperand.the-variants.{Register}
+use Rattle.implicit.specs.declared.Entry.{Entry}
+use Rattle.implicit.specs.declared.Entry.the-variants.{Operand, Slot, End}
+use Rattle.record.specs.Records.{recordOf, recordAnswer}
+use Rattle.record.specs.declared.RecordAnswer.{RecordAnswer}
 use Rattle.definition.specs.Behaviors.{digestCall, privilegeCall, exceptionsCall}
+use Rattle.definition.specs.Visits.{numberOf, opcodeOf, countOf}
 use Rattle.definition.specs.Readings.{readAt}
 use Rattle.definition.specs.declared.PrivilegeAnswer.{PrivilegeAnswer}
+use Rattle.definition.specs.declared.Answer.{Answer}
 use Rattle.definition.specs.declared.Answer.the-variants.{Done, Refused, Complex}
 use Rattle.definition.specs.declared.Event.the-variants.{RegisterRead, RegisterWrite, MemoryRead, MemoryWrite, UnknownRead, UnknownWrite}
 use Rattle.definition.specs.declared.Reading.{Reading}
 use Rattle.definition.specs.declared.Reading.the-variants.{Found, Bad, Finished}
-use Rattle.promises.specs.Rows.{Patch, recordWith, put, long, opcode, count, specs, reg, size, prefixes, behavior, access, list, Q, D, W, Nothing, RegRRR, RegMMM, Deref, Disp, Row, rowIn, row, Gives}
+use Rattle.promises.specs.Rows.{Patch, recordWith, fileWith, knows, long, opcode, count, specs, reg, size, prefixes, behavior, access, list, W, Nothing, RegRRR, RegMMM, Deref, Row, rowIn, row}
 
 -- Listing
 unfoldable pub listings : List Row
@@ -192,6 +203,54 @@ readings =
     ∷ (((6 ∷ 65 ∷ []), 0), Bad 2)
     ∷ []
 
+-- Document 01's numbers of answers: number, opcode and count of an answer; of a reading; of a privilege level
+abbrev pub numbersOf : Answer → ℕ × ℕ × ℕ
+numbersOf a = (numberOf a, opcodeOf a, countOf a)
+
+unfoldable pub answer-numbers : List (Answer × (ℕ × ℕ × ℕ))
+answer-numbers = (Done 5, (0, 0, 5)) ∷ (Refused 3, (3, 0, 0)) ∷ (Complex 9, (4, 9, 0)) ∷ []
+
+unfoldable pub reading-numbers : List (Reading × ℕ)
+reading-numbers = (Found (UnknownRead 1) 2, 0) ∷ (Bad 1, 1) ∷ (Bad 2, 2) ∷ (Finished, 255) ∷ []
+
+unfoldable pub level-numbers : List (PrivilegeLevel × ℕ)
+level-numbers = (Any, 0) ∷ (PL0, 1) ∷ (Special, 2) ∷ (Reserved, 3) ∷ []
+
+-- What the parts of a call answer: a register file and a record from bytes, an entry of a list. Refused, every other number is 0.
+abbrev pub fileFor : List Patch → FileAnswer
+fileFor cs = fileAnswer (fileWith cs)
+
+abbrev pub file : ℕ → List ℕ → ℕ → FileAnswer
+file n vs k = record { number = n; file = record { values = vs; known = k } }
+
+unfoldable pub files : List (List Patch × FileAnswer)
+files =
+    ((knows 0 5 ∷ knows 16 6 ∷ []), file 0 (5 ∷ 0 ∷ 0 ∷ 0 ∷ 0 ∷ 0 ∷ 0 ∷ 0 ∷ 0 ∷ 0 ∷ 0 ∷ 0 ∷ 0 ∷ 0 ∷ 0 ∷ 0 ∷ 6 ∷ []) 0x10001)
+    ∷ ((knows 0 5 ∷ long 140 ∷ []), file 3 (0 ∷ 0 ∷ 0 ∷ 0 ∷ 0 ∷ 0 ∷ 0 ∷ 0 ∷ 0 ∷ 0 ∷ 0 ∷ 0 ∷ 0 ∷ 0 ∷ 0 ∷ 0 ∷ 0 ∷ []) 0)
+    ∷ []
+
+abbrev pub recordFor : List Patch → RecordAnswer
+recordFor cs = recordAnswer (recordWith cs)
+
+unfoldable pub records : List (List Patch × RecordAnswer)
+records =
+    ((opcode 0x1234 ∷ []), record { number = 0; read = recordOf (recordWith (opcode 0x1234 ∷ [])) })
+    ∷ ((long 39 ∷ []), record { number = 1; read = recordOf [] })
+    ∷ ((count 5 ∷ []), record { number = 2; read = recordOf [] })
+    ∷ []
+
+abbrev pub entryFor : ℕ × ℕ → Entry
+entryFor e = entryAt (e .0) (e .1)
+
+unfoldable pub entries : List ((ℕ × ℕ) × Entry)
+entries =
+    ((26, 1), Operand (Register (banks.reg 0 4)) Store)
+    ∷ ((25, 2), Slot 1 Load)
+    ∷ ((26, 3), End)
+    ∷ ((0, 0), End)
+    ∷ ((29, 0), End)
+    ∷ []
+
 -- Setters: a vector above 31, an operand above 3 and a list above 28 are refused 2, and every other number is 0
 abbrev pub vectors : (ℕ × ℕ) × Bool → InfoAnswer
 vectors a = setOf (infoOf (a .0 .0)) (a .0 .1) (a .1)
@@ -215,6 +274,12 @@ may-rows =
     ∷ ((0x80002000, 31), record { number = 0; may = true })
     ∷ ((0xFFFFFFFF, 32), record { number = 2; may = false })
     ∷ []
+
+abbrev pub any-none : ℕ → Bool × Bool
+any-none v = (anyOf (infoOf v), noneOf (infoOf v))
+
+unfoldable pub any-rows : List (ℕ × (Bool × Bool))
+any-rows = (0, (false, true)) ∷ (0x2000, (true, false)) ∷ []
 
 abbrev pub setter : (BehaviorDigest → DigestAnswer) → DigestAnswer
 setter f = f (digest 0xA5 0x5A 9)

@@ -1,9 +1,8 @@
 -- What P1 to P11 do not see of visiting: a row for each error that looks reasonable, each edge of a rule and each place of the
 -- refusals' order.
-use Prim.Native.Nat.{ℕ}
 use mathlib.Core.List.{List, [], _∷_}
 use Rattle.definition.specs.declared.Answer.the-variants.{Done, Refused, Complex}
-use Rattle.promises.specs.Rows.{Patch, put, long, opcode, count, specs, reg, size, scale, disp, imm, prefixes, mask, behavior, access, list, knows, Q, D, W, B, K, RFLAGS, Nothing, RegRRR, RegMMM, RegVex, Reg4, RegRRR-maskmerge, Deref, Deref-mask, Deref-rsi, Deref-edi, Disp, MemIndexScale, MemBaseIndexScale, MemBaseIndexScale-mask, MemBaseIndexScaleDisp, DispU64, DispU32, log, reads, writes, loads, stores, loads-unknown, stores-unknown, Row, rowIn, row}
+use Rattle.promises.specs.Rows.{put, long, opcode, count, specs, reg, size, scale, disp, imm, prefixes, mask, behavior, access, list, knows, Q, D, W, B, K, RFLAGS, Nothing, RegRRR, RegMMM, RegVex, Reg4, RegRRR-maskmerge, Deref, Deref-mask, Deref-rsi, Deref-edi, Disp, MemIndexScale, MemBaseIndexScale, MemBaseIndexScale-mask, MemBaseIndexScaleDisp, DispU64, DispU32, log, reads, writes, loads, stores, loads-unknown, stores-unknown, Row, rowIn, row}
 use Rattle.promises.specs.Bench.{P2, P2-file, P2-log}
 
 -- Only an explicit unmasked write to D is logged as Q

@@ -50,7 +50,7 @@ Addressable (MemoryWrite a n) = a < 2 ^ 64
 Addressable (UnknownRead n) = Unit {0}
 Addressable (UnknownWrite n) = Unit {0}
 
--- a program that visits, and one that keeps the contract of the public visit: its whole outcome is the defined one
+-- what stands for a program that visits: of a record, a file, a buffer and a start it gives an answer and a buffer
 abbrev pub Program : Type 0
 Program = List ℕ → List ℕ → List ℕ → ℕ → Answer × List ℕ
 

@@ -2,11 +2,12 @@
 -- The words that the statements use stand in Refinement.antt (files and events), Calls.antt (calls) and Rows.antt (tables).
 use Prim.Native.Nat.{ℕ, _+_, _≤_}
 use mathlib.Core.Path.{_≡_}
-use mathlib.Core.List.{List, [], _∷_, _++_, List·Memᴰ}
-use mathlib.Core.Logic.{_⊎_, _↔_}
+use mathlib.Core.List.{List, [], _++_, List·Memᴰ}
+use mathlib.Core.Logic.{_↔_}
 use mathlib.Core.Bool.{true, not}
 use lib.ListN.{length, take, drop, set}
 use Rattle.laws.specs.Lending.{splice}
+use Rattle.access.specs.Privileges.{levelNumber}
 use Rattle.registers.specs.Files.{fileOf, isFile, valueOf}
 use Rattle.registers.specs.declared.RegSpec.{RegSpec}
 use Rattle.registers.specs.declared.RegisterFile.{RegisterFile}
@@ -18,7 +19,7 @@ use Rattle.definition.specs.Steps.{stepsOf}
 use Rattle.definition.specs.Logs.{eventsOf, eventBytes, bytesOf}
 use Rattle.definition.specs.Visits.{fixedRecord, logOf, refusalOf, visitUnder, visitOf, numberOf}
 use Rattle.definition.specs.Listings.{listingOf, listingRefusal, listingCall}
-use Rattle.definition.specs.Readings.{isEvent, readFront, readAt, Reads}
+use Rattle.definition.specs.Readings.{isEvent, readFront, readAt, Reads, readingNumber}
 use Rattle.definition.specs.declared.Address.{Address}
 use Rattle.definition.specs.declared.Answer.{Answer}
 use Rattle.definition.specs.declared.Answer.the-variants.{Done, Refused}
@@ -26,10 +27,10 @@ use Rattle.definition.specs.declared.Event.{Event}
 use Rattle.definition.specs.declared.Reading.the-variants.{Found}
 use Rattle.promises.specs.Refinement.{Extends, AgreeOn}
 use Rattle.promises.specs.Calls.{Refusal, Alike, Written, ReadsFrom, Addressable, Program, OneOutcome}
-use Rattle.promises.specs.Rows.{recordWith, fileWith, buffer, Visited, Listed, Gives}
-use Rattle.promises.specs.Bench.{bench}
+use Rattle.promises.specs.Rows.{recordWith, fileWith, buffer, Visited, Listed, Table}
+use Rattle.promises.specs.Bench.{P1, P2, P2-file, bench}
 use Rattle.promises.specs.Beyond.{widening, masking, leas, ordering, addressing, malformed, refusing}
-use Rattle.promises.specs.Answers.{listings, digestFor, digests, exceptionsFor, exceptions, privilegeFor, privileges, readingFrom, readings, vectors, vector-rows, may, may-rows, setter, setter-rows}
+use Rattle.promises.specs.Answers.{listings, digestFor, digests, exceptionsFor, exceptions, privilegeFor, privileges, readingFrom, readings, numbersOf, answer-numbers, reading-numbers, level-numbers, fileFor, files, recordFor, records, entryFor, entries, any-none, any-rows, vectors, vector-rows, may, may-rows, setter, setter-rows}
 use Rattle.promises.specs.Sweeps.{every-list, every-spec-read, every-spec-written, fixedBy, every-opcode, namedIn, every-bank, mulOf, every-width, valueIn, every-value, atSize0, every-memory-list}
 use Rattle.promises.specs.Fullest.{fullest, fullest-file}
 
@@ -155,13 +156,20 @@ BeyondHolds =
 abbrev pub AnswersHold : Type 0
 AnswersHold =
     Listed listings
-    × Gives digestFor digests
-    × Gives exceptionsFor exceptions
-    × Gives privilegeFor privileges
-    × Gives readingFrom readings
-    × Gives vectors vector-rows
-    × Gives may may-rows
-    × Gives setter setter-rows
+    × Table digestFor digests
+    × Table exceptionsFor exceptions
+    × Table privilegeFor privileges
+    × Table readingFrom readings
+    × Table numbersOf answer-numbers
+    × Table readingNumber reading-numbers
+    × Table levelNumber level-numbers
+    × Table fileFor files
+    × Table recordFor records
+    × Table entryFor entries
+    × Table vectors vector-rows
+    × Table any-none any-rows
+    × Table may may-rows
+    × Table setter setter-rows
 
 -- Every list, spec, opcode and bank once.
 abbrev pub SweepsHold : Type 0
@@ -169,47 +177,51 @@ SweepsHold =
     Visited every-list
     × Visited every-spec-read
     × Visited every-spec-written
-    × Gives fixedBy every-opcode
-    × Gives namedIn every-bank
-    × Gives mulOf every-width
-    × Gives valueIn every-value
-    × Gives atSize0 every-memory-list
+    × Table fixedBy every-opcode
+    × Table namedIn every-bank
+    × Table mulOf every-width
+    × Table valueIn every-value
+    × Table atSize0 every-memory-list
 
 -- WRONG ANSWERS TRIED. A program meets the contract where its whole outcome is the defined one.
 abbrev pub Meets : Program → Type 0
 Meets v = (b f p : List ℕ) (s : ℕ) → v b f p s ≡ visitOf b f p s
 
+-- what a program gives at P1 and at P2, over 40 bytes
+abbrev pub atP1 : Program → Answer × List ℕ
+atP1 v = v (recordWith P1) (fileWith []) (buffer 40) 0
+
+abbrev pub atP2 : Program → Answer × List ℕ
+atP2 v = v (recordWith P2) (fileWith P2-file) (buffer 40) 0
+
 -- Refusing everything breaks the exact refusal table: P1 is not refused.
 abbrev pub NotRefusingAll : Type 0
-NotRefusingAll = (v : Program) → Meets v → ((b f p : List ℕ) (s : ℕ) → Refusal (v b f p s .0)) → ⊥
+NotRefusingAll = (v : Program) → Meets v → Refusal (atP1 v .0) → ⊥
 
--- One fixed log, wherever it does not refuse, breaks demand 2 at P1 or at P2.
+-- One fixed log breaks demand 2: it cannot be both P1's and P2's.
 abbrev pub NotOneLog : Type 0
 NotOneLog =
-    (v : Program) → Meets v
-    → (l : List ℕ) → ((b f p : List ℕ) (s : ℕ) → Refusal (v b f p s .0) ⊎ (v b f p s .1 ≡ splice p s l)) → ⊥
+    (v : Program) → Meets v → (l : List ℕ) → atP1 v .1 ≡ splice (buffer 40) 0 l → atP2 v .1 ≡ splice (buffer 40) 0 l → ⊥
 
 -- An untouched buffer breaks demand 2 at P1.
 abbrev pub NotUntouched : Type 0
-NotUntouched = (v : Program) → Meets v → ((b f p : List ℕ) (s : ℕ) → v b f p s .1 ≡ p) → ⊥
+NotUntouched = (v : Program) → Meets v → atP1 v .1 ≡ buffer 40 → ⊥
 
--- A log right for operand 0 and hollow afterwards, whatever n it answers, breaks demand 2 at P2. (Byte 3 is the count.)
+-- A log right for operand 0 and hollow afterwards, whatever n it answers, breaks demand 2 at P2: there it would leave the buffer of
+-- the same record with count 1 (byte 3).
 abbrev pub NotOperand0Alone : Type 0
 NotOperand0Alone =
-    (v : Program) → Meets v → ((b f p : List ℕ) (s : ℕ) → v b f p s .1 ≡ visitOf (set b 3 1) f p s .1) → ⊥
+    (v : Program) → Meets v → atP2 v .1 ≡ visitOf (set (recordWith P2) 3 1) (fileWith P2-file) (buffer 40) 0 .1 → ⊥
 
--- An invented n breaks demand 2, since n is the length of the defined log; one n for all logs breaks it at P1 or at P2.
+-- An invented n breaks demand 2, since n is the length of the defined log; so no n is both P1's and P2's.
 abbrev pub CountIsTheLength : Type 0
 CountIsTheLength =
     (v : Program) → Meets v
     → (b f p : List ℕ) (s n : ℕ) → v b f p s .0 ≡ Done n → n ≡ length (bytesOf (logOf b (fileOf f)))
 
 abbrev pub NotOneCount : Type 0
-NotOneCount =
-    (v : Program) → Meets v
-    → (n : ℕ) → ((b f p : List ℕ) (s : ℕ) → Refusal (v b f p s .0) ⊎ (v b f p s .0 ≡ Done n)) → ⊥
+NotOneCount = (v : Program) → Meets v → (n : ℕ) → atP1 v .0 ≡ Done n → atP2 v .0 ≡ Done n → ⊥
 
 -- An all-unknown log, that of a file that knows nothing, breaks demand 2 at P2, though demand 3 alone would let it pass.
 abbrev pub NotAllUnknown : Type 0
-NotAllUnknown =
-    (v : Program) → Meets v → ((b f p : List ℕ) (s : ℕ) → v b f p s .1 ≡ visitOf b (fileWith []) p s .1) → ⊥
+NotAllUnknown = (v : Program) → Meets v → atP2 v .1 ≡ visitOf (recordWith P2) (fileWith []) (buffer 40) 0 .1 → ⊥

@@ -221,6 +221,6 @@ Visited rows = map (λ (r : Row). visitOf (recordWith (r .fields)) (fileWith (r 
 abbrev pub Listed : List Row → Type 0
 Listed rows = map (λ (r : Row). listingCall (recordWith (r .fields)) (buffer (r .room)) (r .start)) rows ≡ map said rows
 
--- every row of two says what a function gives: the input, and the output
-abbrev pub Gives : {A B : Type 0} → (A → B) → List (A × B) → Type 0
-Gives {A} {B} f rows = map (λ (r : A × B). f (r .0)) rows ≡ map (λ (r : A × B). r .1) rows
+-- every row of two, an input and an output, says what a function gives
+abbrev pub Table : {A B : Type 0} → (A → B) → List (A × B) → Type 0
+Table {A} {B} f rows = map (λ (r : A × B). f (r .0)) rows ≡ map (λ (r : A × B). r .1) rows

@@ -1,8 +1,7 @@
 -- Every list, spec, opcode and bank once, so that no entry of a table stands unseen.
-use Prim.Native.Nat.{ℕ, zero, suc, _-_}
+use Prim.Native.Nat.{ℕ, suc}
 use mathlib.Core.List.{List, [], _∷_, map}
 use lib.ListN.{length}
-use Rattle.access.specs.declared.InfoAnswer.{InfoAnswer}
 use Rattle.registers.specs.Banks as banks
 use Rattle.registers.specs.Files.{fileOf, valueOf}
 use Rattle.registers.specs.declared.Value.{Value}
@@ -10,7 +9,7 @@ use Rattle.registers.specs.declared.Value.the-variants.{Known, Unknown}
 use Rattle.record.specs.Records.{recordRefusal}
 use Rattle.definition.specs.Visits.{numberOf, visitOf}
 use Rattle.definition.specs.declared.Answer.the-variants.{Done}
-use Rattle.promises.specs.Rows.{Patch, recordWith, put, opcode, specs, reg, size, scale, disp, imm, mask, behavior, access, list, fileWith, knows, Q, D, W, rB, B, X, K, RIP, EIP, RFLAGS, RegMMM, Deref-rsi, Deref-edi, log, reads, writes, loads, loads-unknown, stores-unknown, Row, row, buffer}
+use Rattle.promises.specs.Rows.{Patch, recordWith, put, opcode, specs, reg, size, scale, disp, imm, mask, access, list, fileWith, knows, Q, D, W, rB, B, X, K, RIP, EIP, RFLAGS, RegMMM, Deref-rsi, Deref-edi, log, reads, writes, loads, loads-unknown, stores-unknown, Row, row, buffer}
 use Rattle.promises.specs.Answers.{digestFor, exceptionsFor}
 
 -- The implicit lists, with Deref_rsi in slot 0 and Deref_edi in slot 1, and nothing known: what each logs

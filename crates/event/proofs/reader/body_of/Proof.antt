@@ -1,9 +1,10 @@
+-- A range of kinds has one length; past the table there is none. Assumes nothing.
+use native.Mathlib.Omega.{arith}
 use mathlib.Core.List.{[], _∷_}
+use mathlib.Core.Path.{sym}
+use lib.ListN.{List·getD-eq-default}
 use Rattle.laws.proofs.Span.{span-is}
 use Rattle.definition.specs.Readings.{bodyOf}
-use lib.ListN.{List·getD-eq-default}
-use mathlib.Core.Path.{sym}
-use native.Mathlib.Omega.{arith}
 use Rattle.event.proofs.reader.body_of.Statement.{statement}
 use Rattle.event.proofs.reader.body_of.Tie as tie
 

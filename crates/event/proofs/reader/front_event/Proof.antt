@@ -1,14 +1,15 @@
-use mathlib.Core.Logic.{inl, inr}
+-- The body that is required reaches as far as the kind's fields. Assumes nothing.
+use Prim.Native.Nat.{ℕ}
 use native.Mathlib.Nat.{le-of-lt}
-use Rattle.event.proofs.Fronts.{events}
-use Rattle.laws.proofs.Span.{others}
-use Rattle.definition.specs.declared.Event.the-variants.{RegisterRead, RegisterWrite, MemoryRead, MemoryWrite, UnknownRead, UnknownWrite}
-use Rattle.definition.specs.Readings.{bodyOf, frontEvent}
+use mathlib.Core.Logic.{inl, inr}
+use mathlib.Core.Path.{refl, sym, ap}
 use lib.ListN.{getD}
 use denote.Ref.{now}
-use mathlib.Core.Path.{refl, sym, ap}
-use Prim.Native.Nat.{ℕ}
 use borrow.Author.Needs.{needs}
+use Rattle.laws.proofs.Span.{others}
+use Rattle.definition.specs.declared.Event.the-variants.{RegisterRead, RegisterWrite, MemoryRead, MemoryWrite, UnknownRead}
+use Rattle.definition.specs.Readings.{bodyOf, frontEvent}
+use Rattle.event.proofs.Fronts.{events}
 use Rattle.event.proofs.reader.front_event.Statement.{statement}
 use Rattle.event.proofs.reader.front_event.Tie as tie
 

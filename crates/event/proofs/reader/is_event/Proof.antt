@@ -1,5 +1,6 @@
-use Rattle.definition.specs.Readings.{isEvent}
+-- By cases on the event, as in the definition. Assumes nothing.
 use borrow.Author.Needs.{needs}
+use Rattle.definition.specs.Readings.{isEvent}
 use Rattle.event.proofs.reader.is_event.Statement.{statement}
 use Rattle.event.proofs.reader.is_event.Tie as tie
 

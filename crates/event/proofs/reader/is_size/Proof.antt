@@ -1,3 +1,4 @@
+-- Both tests, or the first that fails. Assumes nothing.
 use borrow.Author.Tests.{le-leb, lt-leb}
 use Rattle.event.proofs.reader.is_size.Statement.{statement}
 use Rattle.event.proofs.reader.is_size.Tie as tie

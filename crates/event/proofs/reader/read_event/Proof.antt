@@ -1,10 +1,11 @@
-use Rattle.event.proofs.Fronts.{Moves, moves, finished, from-part}
-use denote.Ref.{now}
+-- The place after an event lies within the log, so it is a number of 64 bits. Assumes nothing.
 use Prim.Native.Nat.{_+_, _<_, _≤_}
-use lib.ListN.{length}
-use mathlib.Core.Path.{sym, subst}
 use native.Mathlib.Omega.{arith}
+use mathlib.Core.Path.{sym, subst}
+use lib.ListN.{length}
+use denote.Ref.{now}
 use borrow.Author.Needs.{needs}
+use Rattle.event.proofs.Fronts.{Moves, moves, finished, from-part}
 use Rattle.event.proofs.reader.read_event.Statement.{statement}
 use Rattle.event.proofs.reader.read_event.Tie as tie
 

@@ -1,8 +1,9 @@
-use Rattle.event.proofs.Fronts.{front-empty, front-unknown, front-cut, front-whole}
-use denote.Ref.{now}
-use mathlib.Core.Path.{sym}
+-- Each answer is the definition's under the tests that led to it. Assumes nothing.
 use native.Mathlib.Omega.{arith}
+use mathlib.Core.Path.{sym}
+use denote.Ref.{now}
 use borrow.Author.Needs.{needs}
+use Rattle.event.proofs.Fronts.{front-empty, front-unknown, front-cut, front-whole}
 use Rattle.event.proofs.reader.read_front.Statement.{statement}
 use Rattle.event.proofs.reader.read_front.Tie as tie
 
@@ -22,7 +23,7 @@ sub-if3 : tie.Need-sub-if3
 sub-if3 c = search needs
 
 returns-3 : tie.Need-returns-3
-returns-3 c = sym (front-cut (now (c .before .before .before .before .before .before .args .log)) (c .before .before .body-of .ensures) (c .before .if2 .left) (omega arith) (c .if3 .taken))
+returns-3 c = sym (front-cut (now (c .before .before .before .before .before .before .args .log)) (c .before .before .body-of .ensures) (c .before .if2 .left) (omega arith) (omega arith))
 
 front-event-requires : tie.Need-front-event-requires
 front-event-requires c κs = search needs

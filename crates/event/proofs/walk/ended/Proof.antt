@@ -1,3 +1,4 @@
+-- By cases on the reading, as in the definition. Assumes nothing.
 use borrow.Author.Needs.{needs}
 use Rattle.event.proofs.walk.ended.Statement.{statement}
 use Rattle.event.proofs.walk.ended.Tie as tie

@@ -1,10 +1,11 @@
-use Rattle.event.proofs.Writing.{logged}
-use Rattle.definition.specs.declared.Event.the-variants.{RegisterRead, RegisterWrite, MemoryRead, MemoryWrite, UnknownRead, UnknownWrite}
-use Rattle.definition.specs.Logs.{eventBytes}
+-- Each event has room, and its bytes are those of its kind and body. Assumes nothing.
+use borrow.Author.Needs.{needs}
 use Rattle.laws.specs.Words.{little}
 use Rattle.laws.specs.Lending.{size}
 use Rattle.laws.specs.Lists.{each}
-use borrow.Author.Needs.{needs}
+use Rattle.definition.specs.declared.Event.the-variants.{RegisterRead, RegisterWrite, MemoryRead, MemoryWrite, UnknownRead, UnknownWrite}
+use Rattle.definition.specs.Logs.{eventBytes}
+use Rattle.event.proofs.Writing.{logged}
 use Rattle.event.proofs.writer.put_event.Statement.{statement}
 use Rattle.event.proofs.writer.put_event.Tie as tie
 

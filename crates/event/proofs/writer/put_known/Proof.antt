@@ -1,8 +1,9 @@
-use mathlib.Core.Path.{refl}
-use Rattle.event.proofs.Writing.{keeps-length, known-length, known-bytes}
+-- The address goes through the part that is lent on, between the kind and the size. Assumes nothing.
 use native.Mathlib.Omega.{arith}
+use mathlib.Core.Path.{refl}
 use lib.ListN.{length-set, length-take, length-drop}
 use borrow.Author.Needs.{needs}
+use Rattle.event.proofs.Writing.{keeps-length, known-length, known-bytes}
 use Rattle.event.proofs.writer.put_known.Statement.{statement}
 use Rattle.event.proofs.writer.put_known.Tie as tie
 

@@ -1,10 +1,11 @@
-use Rattle.event.proofs.Writing.{logged}
-use Rattle.definition.specs.declared.Event.the-variants.{MemoryRead, MemoryWrite, UnknownRead, UnknownWrite}
-use Rattle.definition.specs.Logs.{eventBytes, memoryEvent}
+-- The way and the value decide the event, as in the definition. Assumes nothing.
+use borrow.Author.Needs.{needs}
 use Rattle.laws.specs.Words.{little}
 use Rattle.laws.specs.Lending.{size}
 use Rattle.laws.specs.Lists.{each}
-use borrow.Author.Needs.{needs}
+use Rattle.definition.specs.declared.Event.the-variants.{MemoryRead, MemoryWrite, UnknownRead, UnknownWrite}
+use Rattle.definition.specs.Logs.{eventBytes, memoryEvent}
+use Rattle.event.proofs.Writing.{logged}
 use Rattle.event.proofs.writer.put_memory.Statement.{statement}
 use Rattle.event.proofs.writer.put_memory.Tie as tie
 

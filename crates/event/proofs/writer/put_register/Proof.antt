@@ -1,9 +1,10 @@
-use Rattle.definition.specs.Logs.{registerBytes}
+-- The stores, one after the other, are the event's bytes. Assumes nothing.
+use native.Mathlib.Omega.{arith}
 use mathlib.Core.Path.{refl}
 use lib.Seq.{sets-eq}
-use native.Mathlib.Omega.{arith}
 use lib.ListN.{length-set}
 use borrow.Author.Needs.{needs}
+use Rattle.definition.specs.Logs.{registerBytes}
 use Rattle.event.proofs.writer.put_register.Statement.{statement}
 use Rattle.event.proofs.writer.put_register.Tie as tie
 

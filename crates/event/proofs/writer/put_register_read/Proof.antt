@@ -1,9 +1,10 @@
-use Rattle.event.proofs.Writing.{logged}
-use Rattle.definition.specs.declared.Event.the-variants.{RegisterRead}
-use Rattle.definition.specs.Logs.{eventBytes}
+-- The bytes of kind 1. Assumes nothing.
+use borrow.Author.Needs.{needs}
 use Rattle.laws.specs.Lending.{size}
 use Rattle.laws.specs.Lists.{each}
-use borrow.Author.Needs.{needs}
+use Rattle.definition.specs.declared.Event.the-variants.{RegisterRead}
+use Rattle.definition.specs.Logs.{eventBytes}
+use Rattle.event.proofs.Writing.{logged}
 use Rattle.event.proofs.writer.put_register_read.Statement.{statement}
 use Rattle.event.proofs.writer.put_register_read.Tie as tie
 

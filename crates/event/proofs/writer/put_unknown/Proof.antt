@@ -1,7 +1,8 @@
-use Rattle.definition.specs.Logs.{unknownBytes}
+-- The stores, one after the other, are the event's bytes. Assumes nothing.
 use mathlib.Core.Path.{refl}
 use lib.Seq.{sets-eq}
 use borrow.Author.Needs.{needs}
+use Rattle.definition.specs.Logs.{unknownBytes}
 use Rattle.event.proofs.writer.put_unknown.Statement.{statement}
 use Rattle.event.proofs.writer.put_unknown.Tie as tie
 
