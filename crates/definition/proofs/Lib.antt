@@ -2,3 +2,5 @@ pub mod Weights
 pub mod Bytes
 pub mod Bounds
 pub mod ListingBound
+pub mod Events
+pub mod Outcomes

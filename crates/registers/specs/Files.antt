@@ -12,6 +12,9 @@ use Rattle.registers.specs.declared.FileAnswer.{FileAnswer}
 use Rattle.registers.specs.declared.Value.{Value}
 use Rattle.registers.specs.declared.Value.the-variants.{Known, Unknown}
 
+abbrev pub fileWith : List ℕ → ℕ → RegisterFile
+fileWith v k = record { values = v; known = k }
+
 -- the numbers of 8 bytes that stand from place i on
 unfoldable pub numbersFrom : List ℕ → ℕ → ℕ → List ℕ
 numbersFrom b i zero = []
@@ -19,14 +22,14 @@ numbersFrom b i (suc n) = numberAt b i 8 ∷ numbersFrom b (i + 8) n
 
 -- 141 bytes: kind 0x20; 4 bytes of known bits; 17 values of 8 bytes
 unfoldable pub fileOf : List ℕ → RegisterFile
-fileOf b = record { values = numbersFrom b 5 17; known = numberAt b 1 4 }
+fileOf b = fileWith (numbersFrom b 5 17) (numberAt b 1 4)
 
 unfoldable pub isFile : List ℕ → Bool
 isFile b = eqb (length b) 141 && eqb (getD b 0 0) 0x20 && ltb (numberAt b 1 4) (2 ^ 17)
 
 -- a file that knows nothing
 unfoldable pub noFile : RegisterFile
-noFile = record { values = replicate 17 0; known = 0 }
+noFile = fileWith (replicate 17 0) 0
 
 abbrev pub refusedFile : FileAnswer
 refusedFile = record { number = 3; file = noFile }

@@ -2,10 +2,10 @@
 ghost use mathlib.Core.Path.{_≡_};
 ghost use mathlib.Core.Bool.{cond};
 ghost use Prim.Native.Nat.{_<_, _/_, _%_, _^_};
-ghost use lib.ListN.{length};
+ghost use lib.ListN.{length, getD};
 ghost use lib.Dec.{ltb};
-ghost use Rattle.registers.specs.Banks.{isRegister, isLogged, widthOf, reg};
-ghost use Rattle.registers.specs.Files.{fileOf, refusedFile, fileAnswer, slotOf, valueOf, after};
+ghost use Rattle.registers.specs.Banks.{reg, bankNumbers, loggedNumbers, isRegister, isLogged, widthOf};
+ghost use Rattle.registers.specs.Files.{fileWith, fileOf, refusedFile, fileAnswer, slotOf, valueOf, after};
 ghost use Rattle.registers.specs.declared.Value.the-variants.{Known, Unknown};
 
 // A register: its bank, and its number there.
@@ -32,35 +32,87 @@ pub struct FileAnswer {
     pub file: RegisterFile,
 }
 
-// How many registers each bank has, for records and for logged events.
-const NUMBERS: [u8; 13] = [16, 16, 16, 16, 8, 32, 32, 32, 8, 1, 1, 1, 32];
-
-const LOGGED: [u8; 13] = [16, 16, 16, 16, 8, 32, 32, 32, 8, 1, 1, 1, 32];
-
-const WIDTHS: [u8; 13] = [8, 4, 2, 1, 1, 16, 32, 64, 8, 8, 4, 8, 8];
-
 impl RegSpec {
+    // Whether the table has it: what a record may name.
     pub fn is_register(bank: u8, number: u8) -> bool
         ensures { λ r. ⌜ r ≡ isRegister bank number ⌝ }
     {
-        let b = bank as usize;
-        if b < 13 { number < NUMBERS[b] } else { false }
+        number < bank_numbers(bank)
     }
 
     // What an event may name is a table of its own.
     pub fn is_logged(bank: u8, number: u8) -> bool
         ensures { λ r. ⌜ r ≡ isLogged bank number ⌝ }
     {
-        let b = bank as usize;
-        if b < 13 { number < LOGGED[b] } else { false }
+        number < logged_numbers(bank)
     }
 
     // How many bytes it has.
     pub fn width(self) -> u8
         ensures { λ r. ⌜ r ≡ widthOf self ⌝ }
     {
-        let b = self.bank as usize;
-        if b < 13 { WIDTHS[b] } else { 0 }
+        let bank = self.bank;
+        match bank {
+            0 => 8,
+            1 => 4,
+            2 => 2,
+            3 => 1,
+            4 => 1,
+            5 => 16,
+            6 => 32,
+            7 => 64,
+            8 => 8,
+            9 => 8,
+            10 => 4,
+            11 => 8,
+            12 => 8,
+            _ => 0,
+        }
+    }
+}
+
+// How many registers each bank has, for records. An arm for each bank: the compiler makes one constant table of them, where an array would be
+// built at each call.
+fn bank_numbers(bank: u8) -> u8
+    ensures { λ r. ⌜ r ≡ getD bankNumbers bank 0 ⌝ }
+{
+    match bank {
+        0 => 16, // Q
+        1 => 16, // D
+        2 => 16, // W
+        3 => 16, // rB
+        4 => 8, // B
+        5 => 32, // X
+        6 => 32, // Y
+        7 => 32, // Z
+        8 => 8, // K
+        9 => 1, // RIP
+        10 => 1, // EIP
+        11 => 1, // RFLAGS
+        12 => 32, // other
+        _ => 0,
+    }
+}
+
+// The same for logged events.
+fn logged_numbers(bank: u8) -> u8
+    ensures { λ r. ⌜ r ≡ getD loggedNumbers bank 0 ⌝ }
+{
+    match bank {
+        0 => 16,
+        1 => 16,
+        2 => 16,
+        3 => 16,
+        4 => 8,
+        5 => 32,
+        6 => 32,
+        7 => 32,
+        8 => 8,
+        9 => 1,
+        10 => 1,
+        11 => 1,
+        12 => 32,
+        _ => 0,
     }
 }
 
@@ -133,67 +185,82 @@ impl RegisterFile {
     pub fn slot(self, k: u8) -> Value
         ensures { λ r. ⌜ r ≡ slotOf self k ⌝ }
     {
-        let i = k as usize;
-        if i < 17 {
-            if (self.known >> k) % 2 == 1 {
-                Value::Known(self.values[i])
-            } else {
-                Value::Unknown
-            }
-        } else {
-            Value::Unknown
-        }
+        slot_in(&self.values, self.known, k)
     }
 
+    // What is known of a register: a part of one of the seventeen. One that the table has not is unknown.
     pub fn value(self, x: RegSpec) -> Value
         ensures { λ r. ⌜ r ≡ valueOf self x ⌝ }
     {
-        let bank = x.bank;
-        let number = x.number;
-        match bank {
-            0 => whole(self.general(number)),
-            1 => part(self.general(number), 1, 4294967296),
-            2 => part(self.general(number), 1, 65536),
-            3 => part(self.general(number), 1, 256),
-            4 => self.byte(number),
-            9 => whole(self.pointer(number)),
-            10 => part(self.pointer(number), 1, 4294967296),
-            _ => Value::Unknown,
-        }
+        value_in(&self.values, self.known, x)
     }
+}
 
-    fn general(self, number: u8) -> Value
-        ensures { λ r. ⌜ r ≡ cond (ltb number 16) (slotOf self number) Unknown ⌝ }
-    {
-        if number < 16 {
-            self.slot(number)
+// The same of the values lent, with their known bits: an element of a lent array is read where it stands, and that of a file by value once
+// the whole file is copied.
+pub fn slot_in(values: &[u64; 17], known: u32, k: u8) -> Value
+    ensures { λ r. ⌜ r ≡ slotOf (fileWith (now (values .entry)) known) k ⌝ }
+{
+    let i = k as usize;
+    if i < 17 {
+        if (known >> k) % 2 == 1 {
+            Value::Known(values[i])
         } else {
             Value::Unknown
         }
+    } else {
+        Value::Unknown
     }
+}
 
-    fn pointer(self, number: u8) -> Value
-        ensures { λ r. ⌜ r ≡ cond (ltb number 1) (slotOf self 16) Unknown ⌝ }
-    {
-        if number < 1 {
-            self.slot(16)
-        } else {
-            Value::Unknown
-        }
+pub fn value_in(values: &[u64; 17], known: u32, x: RegSpec) -> Value
+    ensures { λ r. ⌜ r ≡ valueOf (fileWith (now (values .entry)) known) x ⌝ }
+{
+    let bank = x.bank;
+    let number = x.number;
+    match bank {
+        0 => whole(general(values, known, number)),
+        1 => part(general(values, known, number), 1, 4294967296),
+        2 => part(general(values, known, number), 1, 65536),
+        3 => part(general(values, known, number), 1, 256),
+        4 => byte(values, known, number),
+        9 => whole(pointer(values, known, number)),
+        10 => part(pointer(values, known, number), 1, 4294967296),
+        _ => Value::Unknown,
     }
+}
 
-    // The low byte of a register, and from 4 on the byte above it of the register four before.
-    fn byte(self, number: u8) -> Value
-        ensures { λ r. ⌜ r ≡ valueOf self (reg 4 number) ⌝ }
-    {
-        if number < 4 {
-            return part(self.slot(number), 1, 256);
-        }
-        if number < 8 {
-            part(self.slot(number - 4), 256, 256)
-        } else {
-            Value::Unknown
-        }
+fn general(values: &[u64; 17], known: u32, number: u8) -> Value
+    ensures { λ r. ⌜ r ≡ cond (ltb number 16) (slotOf (fileWith (now (values .entry)) known) number) Unknown ⌝ }
+{
+    if number < 16 {
+        slot_in(values, known, number)
+    } else {
+        Value::Unknown
+    }
+}
+
+fn pointer(values: &[u64; 17], known: u32, number: u8) -> Value
+    ensures { λ r. ⌜ r ≡ cond (ltb number 1) (slotOf (fileWith (now (values .entry)) known) 16) Unknown ⌝ }
+{
+    if number < 1 {
+        slot_in(values, known, 16)
+    } else {
+        Value::Unknown
+    }
+}
+
+// The low byte of a register, and from 4 on the byte above it of the register four before.
+fn byte(values: &[u64; 17], known: u32, number: u8) -> Value
+    ensures { λ r. ⌜ r ≡ valueOf (fileWith (now (values .entry)) known) (reg 4 number) ⌝ }
+{
+    if number < 4 {
+        return part(slot_in(values, known, number), 1, 256);
+    }
+    if number < 8 {
+        part(slot_in(values, known, number - 4), 256, 256)
+    } else {
+        Value::Unknown
     }
 }
 

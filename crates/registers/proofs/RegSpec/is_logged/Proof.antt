@@ -1,21 +1,14 @@
-use Rattle.registers.specs.Banks.{isLogged, loggedNumbers}
-use lib.ListN.{List·getD-eq-default}
-use borrow.Author.Tests.{le-ltb}
-use Prim.Native.Nat.{zero-le}
+use Rattle.registers.specs.Banks.{isLogged}
 use borrow.Author.Needs.{needs}
 use Rattle.registers.proofs.RegSpec.is_logged.Statement.{statement}
 use Rattle.registers.proofs.RegSpec.is_logged.Tie as tie
 
-array-read-result : tie.Need-array-read-result
-array-read-result c = search needs
+logged-numbers-requires : tie.Need-logged-numbers-requires
+logged-numbers-requires c κs = search needs
 
 returns : tie.Need-returns
 unfolding isLogged
-returns c = search needs
-
-returns-2 : tie.Need-returns-2
-unfolding isLogged
-returns-2 c = simp (List·getD-eq-default loggedNumbers 0 (c .if1 .left), le-ltb (c .before .args .number) 0 zero-le)
+returns c = rw (c .logged-numbers .ensures)
 
 pub is-logged-spec : {M : Type 1} → statement M
-is-logged-spec = tie.close (tie.spec array-read-result returns returns-2)
+is-logged-spec = tie.close (tie.spec logged-numbers-requires returns)

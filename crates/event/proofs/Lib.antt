@@ -1,0 +1,4 @@
+pub mod Writing
+pub mod Fronts
+pub mod Walks
+pub mod Round

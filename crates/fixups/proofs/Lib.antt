@@ -1,0 +1,3 @@
+pub mod Opcodes
+pub mod Operands
+pub mod Answers

@@ -1,0 +1,42 @@
+-- Walks along lists, a segment for each element: the operands below count. Assumes nothing.
+use Prim.Native.Nat.{ℕ, zero, suc, min, _+_, _≤_, _<_}
+use native.Mathlib.Nat.{le-of-suc-le-suc, not-suc-le-zero}
+use native.Mathlib.Numerals.{add-one}
+use native.Mathlib.Omega.{arith}
+use mathlib.Core.Path.{_≡_, refl, sym, ap, _∙_}
+use mathlib.Core.List.{List, [], _∷_, _++_, map}
+use lib.ListN.{length, getD, take, drop, length-take}
+use lib.Seq.{drop-cons, getD-take}
+use Rattle.laws.specs.Lists.{each, flat}
+use Rattle.record.specs.declared.Record.{Record}
+use Rattle.definition.specs.Behaviors.{Operand, operandAt, operandsOf}
+
+-- what each element gives is what the segments of all give
+pub each-flat : {A B : Type 0} (g : A → List B) (xs : List A) → flat (map g xs) ≡ each g xs
+unfolding each flat
+each-flat g [] = refl
+each-flat g (x ∷ xs) = ap (λ (l : List _). g x ++ l) (each-flat g xs)
+
+-- the four operands
+abbrev four : Record → List Operand
+four x = operandAt x 0 ∷ operandAt x 1 ∷ operandAt x 2 ∷ operandAt x 3 ∷ []
+
+four-at : (x : Record) (d : Operand) (i : ℕ) → i < 4 → getD (four x) i d ≡ operandAt x i
+four-at x d zero h = refl
+four-at x d (suc zero) h = refl
+four-at x d (suc (suc zero)) h = refl
+four-at x d (suc (suc (suc zero))) h = refl
+four-at x d (suc (suc (suc (suc i)))) h = absurd (not-suc-le-zero (le-of-suc-le-suc (le-of-suc-le-suc (le-of-suc-le-suc (le-of-suc-le-suc h)))))
+
+pub operands-length : (x : Record) → length (operandsOf x) ≡ min (x .count) 4
+unfolding operandsOf
+operands-length x = length-take (x .count) (four x)
+
+-- a step of the walk
+pub operand-step : (x : Record) (i : ℕ) → i < length (operandsOf x) → drop i (operandsOf x) ≡ operandAt x i ∷ drop (i + 1) (operandsOf x)
+unfolding operandsOf
+operand-step x i h =
+    let k : i < x .count = omega (arith, operands-length x) in
+    rw (add-one i)
+    (drop-cons (operandsOf x) i (operandAt x 0) h
+    ∙ ap (λ (o : Operand). o ∷ drop (suc i) (operandsOf x)) (getD-take (x .count) (four x) i (operandAt x 0) k ∙ four-at x (operandAt x 0) i (omega (arith, operands-length x))))

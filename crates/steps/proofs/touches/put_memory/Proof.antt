@@ -1,0 +1,35 @@
+use borrow.Author.Needs.{needs}
+use mathlib.Core.List.{_++_, map}
+use Rattle.definition.specs.Addresses.{registersOf}
+use Rattle.definition.specs.Steps.{reads, maskSteps}
+use Rattle.steps.specs.Touches.{memorySteps}
+use Rattle.steps.proofs.Events.{as-steps, as-events, events-stopped}
+use Rattle.steps.proofs.touches.put_memory.Statement.{statement}
+use Rattle.steps.proofs.touches.put_memory.Tie as tie
+
+put-address-requires : tie.Need-put-address-requires
+unfolding memorySteps
+put-address-requires c κs = let s = c .before .before .before in as-events (s .args .f) (map reads (registersOf (s .args .a)) ++ maskSteps (s .args .m)) (events-stopped (s .args .f) (s .args .a) (s .args .m)) (rw (c .before .if1 .taken) at (s .pre))
+
+put-touch-requires : tie.Need-put-touch-requires
+unfolding memorySteps
+put-touch-requires c κs = rw (c .before .if1 .left) at (c .before .before .before .pre)
+
+same-length : tie.Need-same-length
+same-length c = search needs
+
+returns : tie.Need-returns
+unfolding memorySteps
+returns c = let s = c .before .before .before .before .before .before in rw (c .before .before .before .before .if1 .taken) (as-steps (s .args .f) (map reads (registersOf (s .args .a)) ++ maskSteps (s .args .m)) (events-stopped (s .args .f) (s .args .a) (s .args .m)) (c .before .before .put-address .ensures))
+
+same-length-2 : tie.Need-same-length-2
+same-length-2 c = search needs
+
+returns-2 : tie.Need-returns-2
+unfolding memorySteps
+returns-2 c = rw (c .before .before .before .before .if1 .left) (c .before .before .put-touch .ensures)
+
+pub put-memory-spec : {M : Type 1} → statement M
+put-memory-spec =
+    tie.close
+    (tie.spec put-address-requires put-touch-requires same-length returns same-length-2 returns-2)

@@ -1,0 +1,43 @@
+// The whole log of a visit.
+use crate::entries::put_entries;
+use crate::moves::put_move;
+use crate::operands::put_operands;
+use implicit::Way;
+use record::Record;
+use registers::RegSpec;
+use registers::RegisterFile;
+ghost use mathlib.Core.Bool.{cond};
+ghost use mathlib.Core.List.{_∷_, []};
+ghost use Prim.Native.Nat.{_≤_};
+ghost use lib.ListN.{length};
+ghost use Rattle.laws.specs.Lending.{size, Logged};
+ghost use Rattle.definition.specs.Steps.{rflags, stepsOf};
+ghost use Rattle.definition.specs.Logs.{eventBytes, stepBytes};
+ghost use Rattle.steps.specs.Moves.{moved};
+
+const RFLAGS: RegSpec = RegSpec {
+    bank: 11,
+    number: 0,
+};
+
+fn put_flags(log: &mut [u8], way: Way, on: bool) -> usize
+    requires { ⌜ size eventBytes (moved way (cond on (rflags ∷ []) [])) ≤ length (now log) ⌝ }
+    ensures { λ r. ⌜ Logged eventBytes (moved way (cond on (rflags ∷ []) [])) (now (log .entry)) (now (log .exit)) r ⌝ }
+{
+    if on { put_move(log, way, RFLAGS) } else { 0 }
+}
+
+// The implicit list, flags read, flags write, then the explicit operands. The record is one after fix-ups.
+pub fn put_log(log: &mut [u8], f: RegisterFile, x: Record) -> usize
+    requires { ⌜ size (stepBytes f) (stepsOf x) ≤ length (now log) ⌝ }
+    ensures { λ r. ⌜ Logged (stepBytes f) (stepsOf x) (now (log .entry)) (now (log .exit)) r ⌝ }
+{
+    let digest = x.digest;
+    let flags = digest.flags_access();
+    let read = flags.is_read();
+    let write = flags.is_write();
+    let a = put_entries(log, f, x);
+    let b = a + put_flags(&mut log[a..], Way::Load, read);
+    let c = b + put_flags(&mut log[b..], Way::Store, write);
+    c + put_operands(&mut log[c..], f, x)
+}

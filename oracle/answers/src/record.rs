@@ -1,0 +1,46 @@
+//! A record's 40 bytes as the given Rust's instruction, with its base digest.
+
+use given::long_mode::behavior::{set_base, InstBehavior};
+use given::long_mode::{Instruction, Opcode, OperandSpec, Prefixes, RegSpec, RegisterBank};
+
+pub const LENGTH: usize = 40;
+pub const KIND: u8 = 0x10;
+
+pub struct Record {
+    instruction: Instruction,
+    behavior: u8,
+    operand_access: u8,
+    extra: u16,
+}
+
+impl Record {
+    /// For bytes that `refusals::of_record` does not refuse.
+    pub fn from_bytes(bytes: &[u8]) -> Record {
+        let number = |at: usize| u16::from_le_bytes([bytes[at], bytes[at + 1]]);
+        let long = |at: usize| u64::from_le_bytes(bytes[at..at + 8].try_into().unwrap());
+        let reg = |at: usize| RegSpec::new(RegisterBank::from_number(bytes[at]), bytes[at + 1]);
+        let spec = |at: usize| OperandSpec::from_number(bytes[at]);
+        Record {
+            instruction: Instruction {
+                opcode: Opcode::from_number(number(1)),
+                operand_count: bytes[3],
+                operands: [spec(4), spec(5), spec(6), spec(7)],
+                regs: [reg(8), reg(10), reg(12), reg(14)],
+                mem_size: bytes[16],
+                scale: bytes[17],
+                disp: long(18),
+                imm: long(26),
+                prefixes: Prefixes { bits: bytes[34], mask: bytes[35] },
+            },
+            behavior: bytes[36],
+            operand_access: bytes[37],
+            extra: number(38),
+        }
+    }
+
+    /// The given Rust's behavior of this instruction: the record's base digest after fix-ups.
+    pub fn behavior(&self) -> InstBehavior<'_> {
+        set_base(self.behavior, self.operand_access, self.extra);
+        self.instruction.behavior()
+    }
+}

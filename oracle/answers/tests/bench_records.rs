@@ -1,0 +1,95 @@
+//! Document 01's bench records, P1 to P11, through the oracle.
+
+use answers::cases::draft::*;
+use answers::cases::{bases, files};
+use answers::expected::{self, Refusal};
+use answers::input::Input;
+
+fn log(record: Draft, file: files::File) -> Vec<u8> {
+    expected::log(&record.0, &file).expect("a log")
+}
+
+fn refusal(record: Draft) -> Refusal {
+    expected::log(&record.0, &files::holding(&[])).expect_err("a refusal")
+}
+
+/// The address of the last event, which is a memory event at a known address.
+fn address(record: Draft, file: files::File) -> u64 {
+    let log = log(record, file);
+    let event = &log[log.len() - 10..];
+    assert!(matches!(event[0], 3 | 4));
+    u64::from_le_bytes(event[1..9].try_into().unwrap())
+}
+
+#[test]
+fn p1() {
+    let record = Draft::of(&[REG_RRR, REG_MMM]).access(0x06).reg(0, D, 0).reg(1, D, 3);
+    assert_eq!(log(record, files::holding(&[])), [2, 0, 0, 1, 1, 3]);
+}
+
+#[test]
+fn p2_and_p3() {
+    let p2 = bases::p2();
+    let known = [2, 11, 0, 1, 0, 3, 3, 8, 16, 0, 0, 0, 0, 0, 0, 8, 1, 0, 3, 4, 8, 16, 0, 0, 0, 0, 0, 0, 8, 1, 0, 0];
+    assert_eq!(log(p2.record, p2.file), known);
+    let unknown = [2, 11, 0, 1, 0, 3, 5, 8, 1, 0, 3, 6, 8, 1, 0, 0];
+    assert_eq!(log(p2.record, files::knowing(files::ALL_KNOWN & !8)), unknown);
+    assert_eq!(expected::outcome(&Input::visit(&p2.record.0, &p2.file, 32, 0)).answer, 32 << 32);
+    assert_eq!(expected::outcome(&Input::visit(&p2.record.0, &p2.file, 31, 0)).answer, 7);
+}
+
+#[test]
+fn p4() {
+    let record = Draft::of(&[REG_MMM]).opcode(MUL).behavior(0x18).reg(1, D, 3);
+    assert_eq!(log(record, files::holding(&[])), [1, 1, 0, 2, 0, 0, 2, 0, 2, 2, 11, 0, 1, 1, 3]);
+}
+
+#[test]
+fn p5_to_p7() {
+    let record = Draft::of(&[DISP]).reg(1, Q, 3).disp(0xFFFF_FFF8);
+    assert_eq!(address(record, files::holding(&[(3, 4)])), 0xFFFF_FFFF_FFFF_FFFC);
+    assert_eq!(address(record.spec(0, DISP_U32), files::holding(&[(3, 4)])), 0xFFFF_FFF8);
+    let record = Draft::of(&[MEM_INDEX_SCALE]).reg(2, Q, 1).scale(2);
+    assert_eq!(address(record, files::holding(&[(1, 0x8000_0000_0000_0001)])), 2);
+}
+
+#[test]
+fn p8_and_p9() {
+    let push = Draft::of(&[]).list(26);
+    assert_eq!(log(push, files::holding(&[])).len(), 19);
+    assert_eq!(address(push, files::holding(&[])), 0xFFFF_FFFF_FFFF_FFF8);
+    let xlat = Draft::of(&[]).list(28).size(1);
+    assert_eq!(address(xlat, files::holding(&[(3, 0x2000), (0, 0x1234)])), 0x2034);
+}
+
+#[test]
+fn p10_and_p11() {
+    let bit_test = Draft::of(&[REG_MMM]).opcode(BT).behavior(COMPLEX);
+    assert_eq!(log(bit_test, files::holding(&[])), [1, 0, 0]);
+    assert_eq!(refusal(bit_test.spec(0, DISP)), Refusal::Complex(BT));
+    assert_eq!(refusal(Draft::of(&[DISP]).opcode(LEA).size(0)), Refusal::Number(6));
+}
+
+#[test]
+fn sizes() {
+    let record = Draft::of(&[DISP]);
+    assert_eq!(log(record.size(64), files::holding(&[])).last(), Some(&64));
+    assert_eq!(log(record.size(63), files::holding(&[])).last(), Some(&63));
+    assert_eq!(refusal(record.size(65)), Refusal::Number(2));
+}
+
+#[test]
+fn the_longest() {
+    let longest = bases::longest();
+    assert_eq!(log(longest.record, longest.file).len(), expected::LOG_BYTES);
+    assert_eq!(expected::listing(&longest.record.0).unwrap().len(), expected::LISTING_BYTES);
+}
+
+/// The text turns an opcode into a `ComplexOp` by its number: every number must come through.
+#[test]
+fn every_complex_opcode() {
+    for opcode in 0..=65535 {
+        let record = Draft::of(&[DISP]).opcode(opcode).behavior(COMPLEX);
+        assert_eq!(refusal(record), Refusal::Complex(opcode));
+    }
+}
