@@ -4,7 +4,15 @@ ghost use mathlib.Core.Path.{_≡_};
 ghost use Rattle.definition.specs.Behaviors.{digestCall, privilegeCall, exceptionsCall};
 ghost use Rattle.definition.specs.Listings.{listingCall};
 ghost use Rattle.definition.specs.Readings.{readAt};
+ghost use Rattle.definition.specs.Visits.{visitOf};
 ghost use Rattle.machhurel.specs.Answers.{packed, digestBits, privilegeBits, exceptionBits, eventBits};
+
+#[no_mangle]
+pub extern "C" fn machhurel_visit(bytes: &[u8], file: &[u8], log: &mut [u8], start: usize) -> u64
+    ensures { λ r. ⌜ (r, now (log .exit)) ≡ packed (visitOf (now (bytes .entry)) (now (file .entry)) (now (log .entry)) start) ⌝ }
+{
+    crate::bits::answer_bits(visiting::visit_accesses(bytes, file, log, start))
+}
 
 #[no_mangle]
 pub extern "C" fn machhurel_listing(bytes: &[u8], out: &mut [u8], start: usize) -> u64

@@ -7,3 +7,4 @@ pub use calls::machhurel_event;
 pub use calls::machhurel_exceptions;
 pub use calls::machhurel_listing;
 pub use calls::machhurel_privilege;
+pub use calls::machhurel_visit;
