@@ -33,7 +33,11 @@ fn one_list_of(d: BehaviorDigest, test: bool, yes: u16, no: u16) -> BehaviorDige
     requires { ⌜ (yes ≤ 28) × (no ≤ 28) ⌝ }
     ensures { λ r. ⌜ r ≡ withList (cond test yes no) d ⌝ }
 {
-    if test { with_list(d, yes) } else { with_list(d, no) }
+    if test {
+        with_list(d, yes)
+    } else {
+        with_list(d, no)
+    }
 }
 
 fn with_access(d: BehaviorDigest, operand: u8, access: Access) -> BehaviorDigest
@@ -142,7 +146,8 @@ fn fix_insertq(x: Record) -> BehaviorDigest
     ensures { λ r. ⌜ r ≡ fixUp insertq x (x .digest) ⌝ }
 {
     let d = x.digest;
-    if x.count > 2 {
+    let count = x.count;
+    if count > 2 {
         let read = with_access(d, 2, Access::Read);
         with_access(read, 3, Access::Read)
     } else {

@@ -1,7 +1,7 @@
 -- The outcomes of a listing, return by return. Assumes nothing.
 use Prim.Native.Nat.{ℕ, _-_, _≤_, _<_}
 use native.Mathlib.Omega.{arith}
-use mathlib.Core.Path.{_≡_, refl, sym, ap, _∙_}
+use mathlib.Core.Path.{_≡_, sym, ap, _∙_}
 use mathlib.Core.Bool.{true, false}
 use mathlib.Core.List.{List, [], _∷_}
 use lib.Dec.{leb}
@@ -19,7 +19,6 @@ use Rattle.definition.specs.Behaviors.{fixedUp, complex}
 use Rattle.definition.specs.Refusals.{noRoom}
 use Rattle.definition.specs.Visits.{fixedRecord, outcome}
 use Rattle.definition.specs.Listings.{itemsOf, itemBytes, listingOf, listingRefusal, listingCall}
-use Rattle.definition.specs.declared.Answer.{Answer}
 use Rattle.definition.specs.declared.Answer.the-variants.{Done, Refused, Complex}
 use Rattle.definition.proofs.Outcomes.{by-record, past-record, never-complex, refused, refused-complex, past-end, too-short, enough, lent-room, written}
 use Rattle.listing.specs.Calls.{listedFrom}

@@ -1,7 +1,7 @@
 use native.Mathlib.Omega.{arith}
 use Rattle.steps.proofs.Walks.{operands-length}
-use Rattle.steps.proofs.parts.operand_count.Statement.{statement}
-use Rattle.steps.proofs.parts.operand_count.Tie as tie
+use Rattle.steps.proofs.operands.operand_count.Statement.{statement}
+use Rattle.steps.proofs.operands.operand_count.Tie as tie
 
 returns : tie.Need-returns
 returns c = omega (arith, operands-length (c .before .before .args .x))

@@ -10,8 +10,8 @@ use Rattle.definition.specs.Steps.{maskRegisters}
 use Rattle.definition.specs.Logs.{eventBytes}
 use Rattle.steps.specs.Moves.{moved}
 use Rattle.steps.proofs.Events.{masked-split}
-use Rattle.steps.proofs.moves.put_masked_read.Statement.{statement}
-use Rattle.steps.proofs.moves.put_masked_read.Tie as tie
+use Rattle.steps.proofs.moves.put_read.Statement.{statement}
+use Rattle.steps.proofs.moves.put_read.Tie as tie
 
 one :
     (c : tie.After-put-term) → let s = c .before .before .before .before in
@@ -51,8 +51,8 @@ returns : tie.Need-returns
 unfolding termRegisters
 returns c = let s = c .before .before .before .before .before .before .before .before .before .before in rw (masked-split Load (s .args .y) (maskRegisters (s .args .m))) (whole (next (one (c .before .before .before .before .before .before)) (rw (c .before .before .before .before .before .before .before .before .mask-term .ensures) at (c .before .before .put-term2 .ensures))))
 
-pub put-masked-read-spec : {M : Type 1} → statement M
-put-masked-read-spec =
+pub put-read-spec : {M : Type 1} → statement M
+put-read-spec =
     tie.close
     (tie.spec
     mask-term-requires

@@ -9,18 +9,16 @@ use Rattle.laws.proofs.Lending.{Going, start, next, inside, fits, ends, whole, 
 use Rattle.definition.specs.Behaviors.{operandAt, operandsOf}
 use Rattle.definition.specs.Steps.{operandSteps}
 use Rattle.definition.specs.Logs.{stepBytes}
-use Rattle.steps.proofs.Walks.{each-flat, operands-length, operand-step}
-use Rattle.steps.proofs.parts.put_operands.Statement.{statement}
-use Rattle.steps.proofs.parts.put_operands.Tie as tie
+use Rattle.steps.proofs.Walks.{each-flat, operand-step}
+use Rattle.steps.proofs.operands.put_operands.Statement.{statement}
+use Rattle.steps.proofs.operands.put_operands.Tie as tie
 
 abbrev Inv-loop : tie.InvT-loop
 Inv-loop log₀ f x count n₀ i₀ log n i =
     (i ≤ count) × Going (stepBytes f) (each (operandSteps x) (operandsOf x)) (map (operandSteps x) (drop i (operandsOf x))) log₀ log n
 
-
 abbrev μ-loop : tie.MeasureT-loop
 μ-loop log₀ f x count n₀ i₀ log n i = count - i
-
 
 going :
     (c : tie.In-loop Inv-loop μ-loop) → let l = c .before .loop in let s = c .before .before .before .before .args in
@@ -43,7 +41,7 @@ part-put-operand-end : tie.Need-part-put-operand-end Inv-loop μ-loop
 part-put-operand-end c = search needs
 
 put-operand-requires : tie.Need-put-operand-requires Inv-loop μ-loop
-put-operand-requires c κs = (omega (arith, c .before .loop-test .taken, c .before .before .before .operand-count .ensures, operands-length (c .before .before .before .before .before .args .x)), fits (going (c .before)))
+put-operand-requires c κs = fits (going (c .before))
 
 add-n : tie.Need-add-n Inv-loop μ-loop
 add-n c = ends (going (c .before .before .before .before)) (c .before .before .put-operand .ensures)
