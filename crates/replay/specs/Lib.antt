@@ -1,0 +1,3 @@
+pub mod Cases
+pub mod Left
+pub mod Parts
