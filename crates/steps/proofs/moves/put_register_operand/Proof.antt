@@ -1,24 +1,49 @@
 use borrow.Author.Needs.{needs}
-use Prim.Native.Nat.{ℕ, _+_}
+use Prim.Native.Nat.{_+_, _≤_}
 use mathlib.Core.List.{List, [], _∷_}
 use denote.Ref.{now}
+use lib.ListN.{length}
 use Rattle.laws.specs.Lists.{flat}
+use Rattle.laws.specs.Lending.{size}
 use Rattle.laws.proofs.Lending.{Going, first, next, inside, fits, fits-first, ends, whole, keeps, back}
 use mathlib.Core.Bool.{cond}
 use Rattle.definition.specs.Logs.{eventBytes}
+use Rattle.definition.specs.declared.Event.{Event}
 use Rattle.steps.specs.Moves.{registerRead, registerWrite, registerOperand}
 use Rattle.steps.proofs.moves.put_register_operand.Statement.{statement}
 use Rattle.steps.proofs.moves.put_register_operand.Tie as tie
 
+abbrev read : tie.Start → List Event
+read s = cond (s .args .read) (registerRead (s .args .y) (s .args .m)) []
+
+abbrev write : tie.Start → List Event
+write s = cond (s .args .write) (registerWrite (s .args .y) (s .args .masked) (s .args .m)) []
+
+abbrev all : tie.Start → List Event
+all s = flat (read s ∷ write s ∷ [])
+
+room : (s : tie.Start) → size eventBytes (all s) ≤ length (now (s .args .log))
+unfolding registerOperand
+room s = s .pre
+
 one :
     (c : tie.After-put-read-if) → let s = c .before .before .before in
-    Going (eventBytes) (registerOperand (s .args .y) (s .args .masked) (s .args .m) (s .args .read) (s .args .write)) ((cond (s .args .write) (registerWrite (s .args .y) (s .args .masked) (s .args .m)) []) ∷ []) (now (s .args .log)) (c .put-read-if .last .0) (c .put-read-if .result)
+    let p = c .put-read-if in
+    Going eventBytes (all s) (write s ∷ []) (now (s .args .log)) (p .last .0) (p .result)
 unfolding registerOperand
-one c = let s = c .before .before .before in first ((cond (s .args .write) (registerWrite (s .args .y) (s .args .masked) (s .args .m)) []) ∷ []) (c .put-read-if .ensures) (s .pre) (s .good .0 .0)
+one c = let s = c .before .before .before in first (write s ∷ []) (c .put-read-if .ensures) (room s) (s .good .0 .0)
+
+two :
+    (c : tie.After-put-write-if) → let s = c .before .before .before .before .before .before .before in
+    let p = c .before .before .before .before .put-read-if in
+    let q = c .put-write-if in
+    Going eventBytes (all s) [] (now (s .args .log)) (back (p .last .0) (p .result) (q .last .0)) (p .result + q .result)
+unfolding registerOperand
+two c = next (one (c .before .before .before .before)) (c .put-write-if .ensures)
 
 put-read-if-requires : tie.Need-put-read-if-requires
 unfolding registerOperand
-put-read-if-requires c κs = let s = c .before .before in fits-first (eventBytes) (cond (s .args .read) (registerRead (s .args .y) (s .args .m)) []) ((cond (s .args .write) (registerWrite (s .args .y) (s .args .masked) (s .args .m)) []) ∷ []) (s .pre)
+put-read-if-requires c κs = let s = c .before .before in fits-first eventBytes (read s) (write s ∷ []) (room s)
 
 sub-put-write-if : tie.Need-sub-put-write-if
 sub-put-write-if c = inside (one (c .before .before))
@@ -31,19 +56,18 @@ part-put-write-if-end c = search needs
 
 put-write-if-requires : tie.Need-put-write-if-requires
 unfolding registerOperand
-put-write-if-requires c κs = let s = c .before .before .before .before .before .before in fits (one (c .before .before .before))
+put-write-if-requires c κs = fits (one (c .before .before .before))
 
 add-result : tie.Need-add-result
 unfolding registerOperand
-add-result c = let s = c .before .before .before .before .before .before .before .before .before in ends (one (c .before .before .before .before .before .before)) (c .before .before .put-write-if .ensures)
+add-result c = ends (one (c .before .before .before .before .before .before)) (c .before .before .put-write-if .ensures)
 
 same-length : tie.Need-same-length
-unfolding registerOperand
-same-length c = let s = c .before .before .before .before .before .before .before .before .before in keeps (next (one (c .before .before .before .before .before .before)) (c .before .before .put-write-if .ensures))
+same-length c = keeps (two (c .before .before))
 
 returns : tie.Need-returns
 unfolding registerOperand
-returns c = let s = c .before .before .before .before .before .before .before .before .before in whole (next (one (c .before .before .before .before .before .before)) (c .before .before .put-write-if .ensures))
+returns c = whole (two (c .before .before))
 
 pub put-register-operand-spec : {M : Type 1} → statement M
 put-register-operand-spec =

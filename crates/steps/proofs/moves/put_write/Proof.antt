@@ -12,7 +12,8 @@ put-masked-write-requires c κs = rw (c .before .if1 .taken) at (c .before .befo
 
 put-move-requires : tie.Need-put-move-requires
 unfolding registerWrite
-put-move-requires c κs = rw (c .before .before .apply-x86-zext .ensures) (rw (c .before .if1 .left) at (c .before .before .before .before .pre))
+put-move-requires c κs =
+    rw (c .before .before .apply-x86-zext .ensures) (rw (c .before .if1 .left) at (c .before .before .before .before .pre))
 
 same-length : tie.Need-same-length
 same-length c = search needs
@@ -26,7 +27,8 @@ same-length-2 c = search needs
 
 returns-2 : tie.Need-returns-2
 unfolding registerWrite
-returns-2 c = rw (c .before .before .before .before .if1 .left, ← c .before .before .before .before .before .apply-x86-zext .ensures) (c .before .before .put-move .ensures)
+returns-2 c =
+    rw (c .before .before .before .before .if1 .left, ← c .before .before .before .before .before .apply-x86-zext .ensures) (c .before .before .put-move .ensures)
 
 pub put-write-spec : {M : Type 1} → statement M
 put-write-spec =

@@ -2,7 +2,7 @@ use borrow.Author.Needs.{needs}
 use native.Mathlib.Omega.{arith}
 use Prim.Native.Nat.{_+_, _-_, _≤_, zero-le}
 use denote.Ref.{now}
-use mathlib.Core.List.{[], _∷_, map}
+use mathlib.Core.List.{_∷_, map}
 use lib.ListN.{drop, drop-of-length-le}
 use Rattle.laws.specs.Lists.{each}
 use Rattle.laws.proofs.Lending.{Going, start, next, inside, fits, ends, whole, keeps}
@@ -20,16 +20,22 @@ Inv-loop log₀ f x count n₀ i₀ log n i =
 abbrev μ-loop : tie.MeasureT-loop
 μ-loop log₀ f x count n₀ i₀ log n i = count - i
 
+-- the next operand, and those after it
 going :
-    (c : tie.In-loop Inv-loop μ-loop) → let l = c .before .loop in let s = c .before .before .before .before .args in
-    Going (stepBytes (s .f)) (each (operandSteps (s .x)) (operandsOf (s .x))) (operandSteps (s .x) (operandAt (s .x) (l .i)) ∷ map (operandSteps (s .x)) (drop (l .i + 1) (operandsOf (s .x)))) (now (s .log)) (l .log) (l .n)
-going c = rw (operand-step (c .before .before .before .before .args .x) (c .before .loop .i) (omega (arith, c .loop-test .taken, c .before .before .operand-count .ensures))) at (c .before .loop .inv .1)
+    (c : tie.In-loop Inv-loop μ-loop) → let l = c .before .loop in let s = c .before .before .before .before .args in let os = operandsOf (s .x) in
+    Going (stepBytes (s .f)) (each (operandSteps (s .x)) os) (operandSteps (s .x) (operandAt (s .x) (l .i)) ∷ map (operandSteps (s .x)) (drop (l .i + 1) os)) (now (s .log)) (l .log) (l .n)
+going c =
+    let e = operand-step (c .before .before .before .before .args .x) (c .before .loop .i) (omega (arith, c .loop-test .taken, c .before .before .operand-count .ensures)) in
+    rw e at (c .before .loop .inv .1)
 
 operand-count-requires : tie.Need-operand-count-requires Inv-loop μ-loop
 operand-count-requires c κs = search needs
 
 loop-holds : tie.Need-loop-holds Inv-loop μ-loop
-loop-holds c = let s = c .before .before in (zero-le, rw (each-flat (operandSteps (s .args .x)) (operandsOf (s .args .x))) at (start {enc = stepBytes (s .args .f)} (map (operandSteps (s .args .x)) (operandsOf (s .args .x))) (now (s .args .log)) (rw (each-flat (operandSteps (s .args .x)) (operandsOf (s .args .x))) (s .pre)) (s .good .0 .0)))
+loop-holds c =
+    let s = c .before .before in
+    let e = each-flat (operandSteps (s .args .x)) (operandsOf (s .args .x)) in
+    (zero-le, rw e at (start {enc = stepBytes (s .args .f)} (map (operandSteps (s .args .x)) (operandsOf (s .args .x))) (now (s .args .log)) (rw e (s .pre)) (s .good .0 .0)))
 
 sub-put-operand : tie.Need-sub-put-operand Inv-loop μ-loop
 sub-put-operand c = inside (going c)
@@ -59,7 +65,9 @@ same-length : tie.Need-same-length Inv-loop μ-loop
 same-length c = keeps (c .before .loop .inv .1)
 
 returns : tie.Need-returns Inv-loop μ-loop
-returns c = let s = c .before .before .before .before in whole (rw (drop-of-length-le (operandsOf (s .args .x)) {i = c .before .loop .i} (omega (arith, c .loop-test .left, c .before .before .operand-count .ensures))) at (c .before .loop .inv .1))
+returns c =
+    let h = drop-of-length-le (operandsOf (c .before .before .before .before .args .x)) {i = c .before .loop .i} (omega (arith, c .loop-test .left, c .before .before .operand-count .ensures)) in
+    whole (rw h at (c .before .loop .inv .1))
 
 pub put-operands-spec : {M : Type 1} → statement M
 put-operands-spec =
