@@ -1,4 +1,4 @@
-pub mod Operands
+pub mod Walk
 pub mod Shapes
 pub mod Visits
 pub mod Calls

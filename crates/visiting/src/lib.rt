@@ -1,4 +1,5 @@
 // Visiting a record: its refusals in their order, and its log in the lent buffer.
+mod operands;
 mod refusals;
 mod visit;
 

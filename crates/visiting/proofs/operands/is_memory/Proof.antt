@@ -1,7 +1,7 @@
 use mathlib.Core.Path.{sym}
 use Rattle.fixups.proofs.Operands.{memory-spec}
-use Rattle.visiting.proofs.refusals.is_memory.Statement.{statement}
-use Rattle.visiting.proofs.refusals.is_memory.Tie as tie
+use Rattle.visiting.proofs.operands.is_memory.Statement.{statement}
+use Rattle.visiting.proofs.operands.is_memory.Tie as tie
 
 returns : tie.Need-returns
 returns c = sym (memory-spec (c .args .spec))

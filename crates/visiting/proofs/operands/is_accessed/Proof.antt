@@ -1,0 +1,15 @@
+use borrow.Author.Needs.{needs}
+use Rattle.visiting.proofs.operands.is_accessed.Statement.{statement}
+use Rattle.visiting.proofs.operands.is_accessed.Tie as tie
+
+operand-access-requires : tie.Need-operand-access-requires
+operand-access-requires c κs = search needs
+
+to-bits-requires : tie.Need-to-bits-requires
+to-bits-requires c κs = search needs
+
+returns : tie.Need-returns
+returns c = rw (c .to-bits .ensures, c .before .operand-access .ensures)
+
+pub is-accessed-spec : {M : Type 1} → statement M
+is-accessed-spec = tie.close (tie.spec operand-access-requires to-bits-requires returns)
