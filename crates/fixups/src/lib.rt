@@ -10,6 +10,7 @@ use record::Record;
 ghost use mathlib.Core.Path.{_≡_};
 ghost use Rattle.access.specs.Exceptions.{infoOf};
 ghost use Rattle.definition.specs.Behaviors.{digestOf, fixedUp, complex, mayProtect, exceptionsOf, digestCall, privilegeCall, exceptionsCall};
+
 mod memory;
 mod rules;
 
@@ -18,7 +19,11 @@ pub fn digest_of(x: Record) -> BehaviorDigest
     ensures { λ r. ⌜ r ≡ digestOf x ⌝ }
 {
     let d = x.digest;
-    if d.is_nontrivial() { rules::fix_up(x) } else { d }
+    if d.is_nontrivial() {
+        rules::fix_up(x)
+    } else {
+        d
+    }
 }
 
 // The record with its digest after fix-ups.
@@ -57,7 +62,9 @@ fn may_protect(x: Record) -> bool
 pub fn exceptions_of(x: Record) -> ExceptionInfo
     ensures { λ r. ⌜ r ≡ infoOf (exceptionsOf x) ⌝ }
 {
-    let protection = ExceptionInfo::empty().set(Exception::GP, may_protect(x)).info;
+    let protection = ExceptionInfo::empty()
+        .set(Exception::GP, may_protect(x))
+        .info;
     protection.set(Exception::PF, memory::may_fault(x)).info
 }
 

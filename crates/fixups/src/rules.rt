@@ -33,7 +33,11 @@ fn one_list_of(d: BehaviorDigest, test: bool, yes: u16, no: u16) -> BehaviorDige
     requires { ⌜ (yes ≤ 28) × (no ≤ 28) ⌝ }
     ensures { λ r. ⌜ r ≡ withList (cond test yes no) d ⌝ }
 {
-    if test { with_list(d, yes) } else { with_list(d, no) }
+    if test {
+        with_list(d, yes)
+    } else {
+        with_list(d, no)
+    }
 }
 
 fn with_access(d: BehaviorDigest, operand: u8, access: Access) -> BehaviorDigest

@@ -20,10 +20,8 @@ abbrev Inv-loop : tie.InvT-loop
 Inv-loop log₀ f x list n₀ i₀ log n i =
     Going (stepBytes f) (each (entrySteps x) (implicitOf (x .digest .extra))) (map (entrySteps x) (drop i (implicitOf (x .digest .extra)))) log₀ log n
 
-
 abbrev μ-loop : tie.MeasureT-loop
 μ-loop log₀ f x list n₀ i₀ log n i = 4 - i
-
 
 going :
     (c : tie.At-match-keys2 Inv-loop μ-loop) → let l = c .before .before .before .loop in let s = c .before .before .before .before .before .args in let es = implicitOf (s .x .digest .extra) in

@@ -17,10 +17,8 @@ abbrev Inv-loop : tie.InvT-loop
 Inv-loop log₀ f x count n₀ i₀ log n i =
     (i ≤ count) × Going (stepBytes f) (each (operandSteps x) (operandsOf x)) (map (operandSteps x) (drop i (operandsOf x))) log₀ log n
 
-
 abbrev μ-loop : tie.MeasureT-loop
 μ-loop log₀ f x count n₀ i₀ log n i = count - i
-
 
 going :
     (c : tie.In-loop Inv-loop μ-loop) → let l = c .before .loop in let s = c .before .before .before .before .args in

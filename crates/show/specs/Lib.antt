@@ -1,0 +1,3 @@
+pub mod Ascii
+pub mod Names
+pub mod Words

@@ -1,0 +1,4 @@
+// show FILE..: prints which registers and which memory each record of a trace touches.
+mod words; // words.rt: an event in words
+
+fn main() {}
