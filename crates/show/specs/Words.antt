@@ -1,5 +1,5 @@
 -- An event in words.
-use Prim.Native.Nat.{ℕ, _+_, _/_, _%_}
+use Prim.Native.Nat.{ℕ, zero, suc, _/_}
 use Prim.Native.String.{String}
 use mathlib.Core.List.{List, [], _∷_}
 use mathlib.Core.Bool.{cond}
@@ -13,28 +13,25 @@ use Rattle.definition.specs.declared.Event.the-variants.{RegisterRead, Register
 use Rattle.show.specs.Ascii.{ascii}
 use Rattle.show.specs.Names.{quads, doubles, words, lows, bytes}
 
--- a piece of a line: letters as they stand, a byte in decimal, a word in sixteen hexadecimal digits
+-- a piece of a line: letters as they stand, a number in decimal, a number in sixteen hexadecimal digits
 pub data Word : Type 0 where
   letters : List ℕ → Word
   decimal : ℕ → Word
   hex : ℕ → Word
 
-abbrev pub oneDigit : ℕ → List ℕ
-oneDigit n = (48 + n) ∷ []
+-- how many digits a number has, where it has no more than one and the limit
+unfoldable pub places : ℕ → ℕ → ℕ
+places zero n = 1
+places (suc limit) n = cond (ltb n 10) 1 (suc (places limit (n / 10)))
 
-abbrev pub twoDigits : ℕ → List ℕ
-twoDigits n = (48 + n / 10) ∷ (48 + n % 10) ∷ []
-
-abbrev pub threeDigits : ℕ → List ℕ
-threeDigits n = (48 + n / 100) ∷ (48 + n / 10 % 10) ∷ (48 + n % 10) ∷ []
-
-unfoldable pub sixteenDigits : ℕ → List ℕ
-sixteenDigits a = digits 16 16 a
+-- the last k digits of a number in a base
+unfoldable pub spelt : ℕ → ℕ → ℕ → List ℕ
+spelt base k n = digits base k n
 
 unfoldable pub wordBytes : Word → List ℕ
 wordBytes (letters t) = t
-wordBytes (decimal n) = cond (ltb n 10) (oneDigit n) (cond (ltb n 100) (twoDigits n) (threeDigits n))
-wordBytes (hex a) = sixteenDigits a
+wordBytes (decimal n) = spelt 10 (places 19 n) n
+wordBytes (hex a) = spelt 16 16 a
 
 abbrev pub text : String → List Word
 text s = letters (ascii s) ∷ []

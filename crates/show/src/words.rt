@@ -68,7 +68,7 @@ fn put_size(out: &mut [u8], n: u8) -> usize
     if n == 1 {
         return put(out, b"1 byte\n");
     }
-    let a = put_decimal(out, n);
+    let a = put_decimal(out, n as u64);
     a + put(&mut out[a..], b" bytes\n")
 }
 
@@ -142,7 +142,7 @@ fn put_numbered(out: &mut [u8], stem: &[u8], k: u8) -> usize
     ensures { λ r. ⌜ Logged wordBytes (numbered (now (stem .entry)) k) (now (out .entry)) (now (out .exit)) r ⌝ }
 {
     let a = put(out, stem);
-    a + put_decimal(&mut out[a..], k)
+    a + put_decimal(&mut out[a..], k as u64)
 }
 
 fn put(out: &mut [u8], t: &[u8]) -> usize
@@ -152,23 +152,13 @@ fn put(out: &mut [u8], t: &[u8]) -> usize
     bytes::copy(t, out)
 }
 
-fn put_decimal(out: &mut [u8], n: u8) -> usize
+fn put_decimal(out: &mut [u8], n: u64) -> usize
     requires { ⌜ size wordBytes (decimal n ∷ []) ≤ length (now out) ⌝ }
     ensures { λ r. ⌜ Logged wordBytes (decimal n ∷ []) (now (out .entry)) (now (out .exit)) r ⌝ }
 {
-    if n < 10 {
-        out[0] = 48 + n;
-        return 1;
-    }
-    if n < 100 {
-        out[0] = 48 + n / 10;
-        out[1] = 48 + n % 10;
-        return 2;
-    }
-    out[0] = 48 + n / 100;
-    out[1] = 48 + n / 10 % 10;
-    out[2] = 48 + n % 10;
-    3
+    let mut digits = [0u8; 20];
+    let n = io::decimal(n, &mut digits);
+    put(out, &digits[..n])
 }
 
 fn put_hex(out: &mut [u8], a: u64) -> usize

@@ -1,84 +1,49 @@
--- The stores of one, two or three digits. Assumes nothing.
+-- The digits that the kit spells, copied to the front. Assumes nothing.
+use Prim.Native.Nat.{ℕ}
 use native.Mathlib.Omega.{arith}
-use lib.ListN.{length-set}
+use mathlib.Core.Path.{_≡_, ap, _∙_}
+use lib.ListN.{take}
 use borrow.Author.Needs.{needs}
-use Rattle.show.proofs.Texts.{room-one, stored, digit, digits-2, digits-3}
+use Rattle.show.specs.Words.{letters, decimal, places, spelt, wordBytes}
+use Rattle.show.proofs.Numbers.{unique, fewest}
+use Rattle.show.proofs.Texts.{respelt, room-respelt}
 use Rattle.show.proofs.words.put_decimal.Statement.{statement}
 use Rattle.show.proofs.words.put_decimal.Tie as tie
 
-add-out : tie.Need-add-out
-add-out c = search needs
+decimal-requires : tie.Need-decimal-requires
+decimal-requires c κs = search needs
 
-slice-write-out : tie.Need-slice-write-out
-slice-write-out c = omega (arith, room-one _ _ (digit (c .before .args .n) (c .if1 .taken)) (c .before .pre))
+array-share-prefix-digits : tie.Need-array-share-prefix-digits
+array-share-prefix-digits c = search needs
+
+slice-aggregate-put : tie.Need-slice-aggregate-put
+slice-aggregate-put c = search needs
+
+-- what is copied has the bytes of the word
+same : (c : tie.After-decimal) → wordBytes (letters (take (c .decimal .result) (c .decimal .last .1 .0))) ≡ wordBytes (decimal (c .before .before .before .args .n))
+unfolding wordBytes spelt
+same c =
+    let s = c .before .before .before in
+    c .decimal .ensures .1 .1
+    ∙ ap (λ (k : ℕ). spelt 10 k (s .args .n))
+    (unique 10 1 (s .args .n) (c .decimal .result) (places 19 (s .args .n)) (omega arith) (c .decimal .ensures .1 .0) (fewest 19 (s .args .n) (omega (arith, s .fits .n .fits))))
+
+put-requires : tie.Need-put-requires
+put-requires c κs = room-respelt _ _ (same (c .before .before)) (c .before .before .before .before .before .pre)
 
 same-length : tie.Need-same-length
 same-length c = search needs
 
 returns : tie.Need-returns
-returns c = stored _ _ (digit (c .before .args .n) (c .if1 .taken)) (c .before .args .out .now) (c .before .pre)
-
-add-out-2 : tie.Need-add-out-2
-add-out-2 c = search needs
-
-slice-write-out-2 : tie.Need-slice-write-out-2
-slice-write-out-2 c = omega (arith, room-one _ _ (digits-2 (c .before .before .args .n) (c .before .if1 .left) (c .if2 .taken)) (c .before .before .pre))
-
-add-out-3 : tie.Need-add-out-3
-add-out-3 c = search needs
-
-slice-write-out-3 : tie.Need-slice-write-out-3
-slice-write-out-3 c = simp length-set (omega (arith, room-one _ _ (digits-2 (c .before .before .args .n) (c .before .if1 .left) (c .if2 .taken)) (c .before .before .pre)))
-
-same-length-2 : tie.Need-same-length-2
-same-length-2 c = search needs
-
-returns-2 : tie.Need-returns-2
-returns-2 c = stored _ _ (digits-2 (c .before .before .args .n) (c .before .if1 .left) (c .if2 .taken)) (c .before .before .args .out .now) (c .before .before .pre)
-
-add-out-4 : tie.Need-add-out-4
-add-out-4 c = search needs
-
-slice-write-out-4 : tie.Need-slice-write-out-4
-slice-write-out-4 c = omega (arith, room-one _ _ (digits-3 (c .before .before .args .n) (c .before .if1 .left) (c .if2 .left)) (c .before .before .pre))
-
-add-out-5 : tie.Need-add-out-5
-add-out-5 c = search needs
-
-slice-write-out-5 : tie.Need-slice-write-out-5
-slice-write-out-5 c = simp length-set (omega (arith, room-one _ _ (digits-3 (c .before .before .args .n) (c .before .if1 .left) (c .if2 .left)) (c .before .before .pre)))
-
-add-out-6 : tie.Need-add-out-6
-add-out-6 c = search needs
-
-slice-write-out-6 : tie.Need-slice-write-out-6
-slice-write-out-6 c = simp length-set (omega (arith, room-one _ _ (digits-3 (c .before .before .args .n) (c .before .if1 .left) (c .if2 .left)) (c .before .before .pre)))
-
-same-length-3 : tie.Need-same-length-3
-same-length-3 c = search needs
-
-returns-3 : tie.Need-returns-3
-returns-3 c = stored _ _ (digits-3 (c .before .before .args .n) (c .before .if1 .left) (c .if2 .left)) (c .before .before .args .out .now) (c .before .before .pre)
+returns c = respelt _ _ (same (c .before .before .before .before .before)) (c .before .before .put .ensures)
 
 pub put-decimal-spec : {M : Type 1} → statement M
 put-decimal-spec =
     tie.close
     (tie.spec
-    add-out
-    slice-write-out
+    decimal-requires
+    array-share-prefix-digits
+    slice-aggregate-put
+    put-requires
     same-length
-    returns
-    add-out-2
-    slice-write-out-2
-    add-out-3
-    slice-write-out-3
-    same-length-2
-    returns-2
-    add-out-4
-    slice-write-out-4
-    add-out-5
-    slice-write-out-5
-    add-out-6
-    slice-write-out-6
-    same-length-3
-    returns-3)
+    returns)

@@ -1,11 +1,12 @@
 -- The digits that the kit spells, copied to the front. Assumes nothing.
 use Prim.Native.Nat.{ℕ}
+use native.Mathlib.Omega.{arith}
 use mathlib.Core.Path.{_≡_, ap, _∙_}
 use lib.ListN.{take}
 use borrow.Author.Needs.{needs}
-use Rattle.io.specs.Digits.{digits}
-use Rattle.show.specs.Words.{letters, hex, sixteenDigits, wordBytes}
-use Rattle.show.proofs.Texts.{respelt, room-respelt, sixteen}
+use Rattle.show.specs.Words.{letters, hex, spelt, wordBytes}
+use Rattle.show.proofs.Numbers.{unique, sixteen}
+use Rattle.show.proofs.Texts.{respelt, room-respelt}
 use Rattle.show.proofs.words.put_hex.Statement.{statement}
 use Rattle.show.proofs.words.put_hex.Tie as tie
 
@@ -20,10 +21,12 @@ slice-aggregate-put c = search needs
 
 -- what is copied has the bytes of the word
 same : (c : tie.After-hex) → wordBytes (letters (take (c .hex .result) (c .hex .last .1 .1 .0))) ≡ wordBytes (hex (c .before .before .before .args .a))
-unfolding wordBytes sixteenDigits
+unfolding wordBytes spelt
 same c =
     let s = c .before .before .before in
-    c .hex .ensures .1 .1 ∙ ap (λ (k : ℕ). digits 16 k (s .args .a)) (sixteen (s .args .a) (c .hex .result) (s .fits .a .fits) (c .hex .ensures .1 .0))
+    c .hex .ensures .1 .1
+    ∙ ap (λ (k : ℕ). spelt 16 k (s .args .a))
+    (unique 16 16 (s .args .a) (c .hex .result) 16 (omega arith) (c .hex .ensures .1 .0) (sixteen (s .args .a) (s .fits .a .fits)))
 
 put-requires : tie.Need-put-requires
 put-requires c κs = room-respelt _ _ (same (c .before .before)) (c .before .before .before .before .before .pre)
