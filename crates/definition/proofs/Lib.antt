@@ -3,3 +3,4 @@ pub mod Bytes
 pub mod Bounds
 pub mod ListingBound
 pub mod Events
+pub mod Outcomes

@@ -1,0 +1,91 @@
+-- The outcome of a call that writes, case by case: refused by what stands before the room, past the end, no room, written. They hold
+-- for the bytes of anything, so that listing and visiting cite the same laws. Assumes nothing.
+use Prim.Native.Nat.{ℕ, _-_, _≤_, _<_}
+use native.Mathlib.Omega.{arith}
+use mathlib.Core.Path.{_≡_, refl, sym, _∙_}
+use mathlib.Core.Bool.{Bool, true, false, not, cond}
+use mathlib.Core.List.{List, [], _∷_, _++_}
+use lib.ListN.{length}
+use borrow.Author.Tests.{lt-ltb, le-ltb, ne-eqb}
+use Rattle.laws.specs.Tests.{firstOf}
+use Rattle.laws.specs.Lists.{each}
+use Rattle.laws.specs.Lending.{Logged}
+use Rattle.laws.proofs.Choice.{first-later}
+use Rattle.laws.proofs.Every.{Every}
+use Rattle.laws.proofs.Lending.{part, back, spliced, part-length}
+use Rattle.record.specs.Records.{isRecord, recordOf, outside, recordRefusal}
+use Rattle.record.proofs.Laws.{passed}
+use Rattle.definition.specs.Refusals.{noRoom}
+use Rattle.definition.specs.Visits.{outcome}
+use Rattle.definition.specs.declared.Answer.{Answer}
+use Rattle.definition.specs.declared.Answer.the-variants.{Done, Refused, Complex}
+
+-- A table of refusals in two parts: the first part refuses, or it passes and the second part decides
+pub first-front : (ts us : List (Bool × ℕ)) {k : ℕ} → firstOf ts ≡ k → (k ≡ 0 → ⊥) → firstOf (ts ++ us) ≡ k
+unfolding firstOf
+first-front [] us e ne = absurd (ne (sym e))
+first-front ((true, n) ∷ ts) us e ne = e
+first-front ((false, n) ∷ ts) us e ne = first-front ts us e ne
+
+pub first-back : (ts us : List (Bool × ℕ)) → Every (λ t. t .0 ≡ false) ts → firstOf (ts ++ us) ≡ firstOf us
+first-back [] us h = refl
+first-back (t ∷ ts) us h = first-later (t .0) (t .1) (ts ++ us) (h .0) ∙ first-back ts us (h .1)
+
+-- Refusals 1 and 2 stand first in the table of every call on a record: they refuse, or the others decide
+module _ (b : List ℕ) (us : List (Bool × ℕ)) where
+  pub by-record : (recordRefusal b ≡ 0 → ⊥) → firstOf ((not (isRecord b), 1) ∷ (outside (recordOf b), 2) ∷ us) ≡ recordRefusal b
+  unfolding recordRefusal
+  by-record ne = first-front ((not (isRecord b), 1) ∷ (outside (recordOf b), 2) ∷ []) us refl ne
+
+  pub past-record : recordRefusal b ≡ 0 → firstOf ((not (isRecord b), 1) ∷ (outside (recordOf b), 2) ∷ us) ≡ firstOf us
+  past-record e =
+      let p = passed b e in
+      first-back ((not (isRecord b), 1) ∷ (outside (recordOf b), 2) ∷ []) us (rw (p .is) refl, (p .in-tables, tt))
+
+-- and no record is refused 4 by its bytes alone
+pub never-complex : (b : List ℕ) → recordRefusal b ≡ 4 → ⊥
+unfolding recordRefusal firstOf
+never-complex b e = by (not (isRecord b)) (outside (recordOf b)) e
+  where
+    by : (s t : Bool) → cond {A = ℕ} s 1 (cond t 2 0) ≡ 4 → ⊥
+    by true t e = omega arith
+    by false true e = omega arith
+    by false false e = omega arith
+
+-- What a refusal number gives
+module _ (opcode : ℕ) (bytes buffer : List ℕ) (start : ℕ) where
+  pub refused : {number k : ℕ} → number ≡ k → (k ≡ 0 → ⊥) → (k ≡ 4 → ⊥) → outcome number opcode bytes buffer start ≡ (Refused k, buffer)
+  unfolding outcome
+  refused {number} {k} e z f = rw (e, ne-eqb k 0 z, ne-eqb k 4 f)
+
+  pub refused-complex : {number : ℕ} → number ≡ 4 → outcome number opcode bytes buffer start ≡ (Complex opcode, buffer)
+  unfolding outcome
+  refused-complex e = rw e
+
+-- The last test of the table: the room decides, for n bytes in a buffer from a start on
+abbrev pub byRoom : ℕ → List ℕ → ℕ → ℕ
+byRoom n buffer start = firstOf ((noRoom n buffer start, 7) ∷ [])
+
+module _ (n : ℕ) (buffer : List ℕ) (start : ℕ) where
+  pub past-end : length buffer < start → byRoom n buffer start ≡ 7
+  unfolding firstOf noRoom
+  past-end h = rw (lt-ltb (length buffer) start h)
+
+  pub too-short : start ≤ length buffer → length buffer - start < n → byRoom n buffer start ≡ 7
+  unfolding firstOf noRoom
+  too-short s h = rw (le-ltb (length buffer) start s, lt-ltb (length buffer - start) n h)
+
+  pub enough : start ≤ length buffer → n ≤ length buffer - start → byRoom n buffer start ≡ 0
+  unfolding firstOf noRoom
+  enough s h = rw (le-ltb (length buffer) start s, le-ltb (length buffer - start) n h)
+
+-- that room, in the part that is lent from the start on
+pub lent-room : (buffer : List ℕ) (start : ℕ) {n : ℕ} → n ≤ length buffer - start → n ≤ length (part buffer start)
+lent-room buffer start h = rw (part-length buffer start) h
+
+-- nothing is refused, and a writer wrote the bytes to that part
+pub written :
+    {A : Type 0} {enc : A → List ℕ} {es : List A} (opcode : ℕ) (buffer : List ℕ) (start : ℕ) {number n : ℕ} {ys : List ℕ}
+    → number ≡ 0 → Logged enc es (part buffer start) ys n → outcome number opcode (each enc es) buffer start ≡ (Done n, back buffer start ys)
+unfolding outcome
+written opcode buffer start e l = rw (e, l .count, spliced buffer start l)
