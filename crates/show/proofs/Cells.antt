@@ -12,20 +12,20 @@ use Rattle.show.specs.Ascii.{ascii}
 use Rattle.show.specs.Names.{quads, doubles, words, lows, bytes, lettersAt, cell}
 use Rattle.show.specs.Words.{Word, letters, text, named, numbered, names, nameOf}
 
-pub no-cell : (row : List ℕ) (k : ℕ) → length row < 4 * k + 4 → cell row k ≡ []
+pub no-cell : (row : List ℕ) (k : ℕ) → length row < 5 * k + 5 → cell row k ≡ []
 unfolding cell
-no-cell row k h = simp (lt-ltb (length row) (4 * k + 4) h)
+no-cell row k h = simp (lt-ltb (length row) (5 * k + 5) h)
 
-pub whole-cell : (row : List ℕ) (k : ℕ) → 4 * k + 4 ≤ length row → cell row k ≡ take (lettersAt row (4 * k)) (drop (4 * k) row)
+pub whole-cell : (row : List ℕ) (k : ℕ) → 5 * k + 5 ≤ length row → cell row k ≡ take (lettersAt row (5 * k)) (drop (5 * k) row)
 unfolding cell
-whole-cell row k h = simp (le-ltb (length row) (4 * k + 4) h)
+whole-cell row k h = simp (le-ltb (length row) (5 * k + 5) h)
 
 -- n cells of a row, from i on
 cells : List ℕ → ℕ → ℕ → List (List ℕ)
 cells row i zero = []
 cells row i (suc n) = cell row i ∷ cells row (suc i) n
 
-cell-at : (row : List ℕ) (i n k : ℕ) → length row ≡ 4 * (i + n) → getD (cells row i n) k [] ≡ cell row (i + k)
+cell-at : (row : List ℕ) (i n k : ℕ) → length row ≡ 5 * (i + n) → getD (cells row i n) k [] ≡ cell row (i + k)
 unfolding cells
 cell-at row i zero k h = sym (no-cell row (i + k) (omega arith))
 cell-at row i (suc n) zero h = rw (add-zero i)
@@ -40,26 +40,26 @@ named-at (x ∷ xs) zero = refl
 named-at (x ∷ xs) (suc k) = named-at xs k
 
 -- a row whose cells are the names
-by-row : (row : List ℕ) (names : List String) (n : ℕ) → length row ≡ 4 * n → cells row 0 n ≡ map ascii names → (k : ℕ) → named names k ≡ letters (cell row k) ∷ []
+by-row : (row : List ℕ) (names : List String) (n : ℕ) → length row ≡ 5 * n → cells row 0 n ≡ map ascii names → (k : ℕ) → named names k ≡ letters (cell row k) ∷ []
 unfolding named
 by-row row names n long e k =
-    let h : length row ≡ 4 * (0 + n) = rw (zero-add n) long in
+    let h : length row ≡ 5 * (0 + n) = rw (zero-add n) long in
     ap (λ (t : List ℕ). letters t ∷ []) (sym (named-at names k) ∙ ap (λ (l : List (List ℕ)). getD l k []) (sym e) ∙ cell-at row 0 n k h ∙ ap (cell row) (zero-add k))
 
 abbrev quad-row : List ℕ
-quad-row = ascii "rax rcx rdx rbx rsp rbp rsi rdi r8  r9  r10 r11 r12 r13 r14 r15 "
+quad-row = ascii "rax  rcx  rdx  rbx  rsp  rbp  rsi  rdi  r8   r9   r10  r11  r12  r13  r14  r15  "
 
 abbrev double-row : List ℕ
-double-row = ascii "eax ecx edx ebx esp ebp esi edi r8d r9d r10dr11dr12dr13dr14dr15d"
+double-row = ascii "eax  ecx  edx  ebx  esp  ebp  esi  edi  r8d  r9d  r10d r11d r12d r13d r14d r15d "
 
 abbrev word-row : List ℕ
-word-row = ascii "ax  cx  dx  bx  sp  bp  si  di  r8w r9w r10wr11wr12wr13wr14wr15w"
+word-row = ascii "ax   cx   dx   bx   sp   bp   si   di   r8w  r9w  r10w r11w r12w r13w r14w r15w "
 
 abbrev low-row : List ℕ
-low-row = ascii "al  cl  dl  bl  spl bpl sil dil r8b r9b r10br11br12br13br14br15b"
+low-row = ascii "al   cl   dl   bl   spl  bpl  sil  dil  r8b  r9b  r10b r11b r12b r13b r14b r15b "
 
 abbrev byte-row : List ℕ
-byte-row = ascii "al  cl  dl  bl  ah  ch  dh  bh  "
+byte-row = ascii "al   cl   dl   bl   ah   ch   dh   bh   "
 
 -- the name of a register of each bank
 module _ (y : RegSpec) where

@@ -22,9 +22,9 @@ lows = "al" ∷ "cl" ∷ "dl" ∷ "bl" ∷ "spl" ∷ "bpl" ∷ "sil" ∷ "dil" �
 abbrev pub bytes : List String
 bytes = "al" ∷ "cl" ∷ "dl" ∷ "bl" ∷ "ah" ∷ "ch" ∷ "dh" ∷ "bh" ∷ []
 
--- how the program keeps them: a row of cells of four letters, a name of two to four letters in each, and spaces behind it
+-- how the program keeps them: a row of cells of five, a name of two to four letters in each, and spaces behind it
 unfoldable pub lettersAt : List ℕ → ℕ → ℕ
 lettersAt row at = cond (eqb (getD row (at + 2) 0) 32) 2 (cond (eqb (getD row (at + 3) 0) 32) 3 4)
 
 unfoldable pub cell : List ℕ → ℕ → List ℕ
-cell row k = cond (ltb (length row) (4 * k + 4)) [] (take (lettersAt row (4 * k)) (drop (4 * k) row))
+cell row k = cond (ltb (length row) (5 * k + 5)) [] (take (lettersAt row (5 * k)) (drop (5 * k) row))

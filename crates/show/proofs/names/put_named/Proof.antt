@@ -9,8 +9,8 @@ use Rattle.show.specs.Names.{cell}
 use Rattle.show.specs.Words.{letters, wordBytes}
 use Rattle.show.proofs.Texts.{one}
 use Rattle.show.proofs.Cells.{no-cell, whole-cell}
-use Rattle.show.proofs.words.put_named.Statement.{statement}
-use Rattle.show.proofs.words.put_named.Tie as tie
+use Rattle.show.proofs.names.put_named.Statement.{statement}
+use Rattle.show.proofs.names.put_named.Tie as tie
 
 mul-at : tie.Need-mul-at
 mul-at c = search needs
@@ -32,11 +32,11 @@ add-end c = search needs
 
 -- the part that is copied is the cell
 same :
-    (c : tie.After-letters-at) → let s = c .before .before .before .before in let at = 4 * s .args .k in
+    (c : tie.After-letters-at) → let s = c .before .before .before .before in let at = 5 * s .args .k in
     take (at + c .letters-at .result - at) (drop at (s .args .row .now)) ≡ cell (s .args .row .now) (s .args .k)
 same c =
     let s = c .before .before .before .before in
-    let at = 4 * s .args .k in
+    let at = 5 * s .args .k in
     let e : at + c .letters-at .result - at ≡ c .letters-at .result = omega arith in
     ap (λ (n : ℕ). take n (drop at (s .args .row .now))) (e ∙ c .letters-at .ensures .0)
     ∙ sym (whole-cell (s .args .row .now) (s .args .k) (c .before .if1 .left))

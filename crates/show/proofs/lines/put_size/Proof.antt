@@ -7,8 +7,8 @@ use Rattle.laws.proofs.Lending.{Going, first, next, inside, fits, fits-first, e
 use Rattle.show.specs.Ascii.{ascii}
 use Rattle.show.specs.Words.{decimal, text, wordBytes}
 use Rattle.show.proofs.Texts.{one-byte, more-bytes}
-use Rattle.show.proofs.words.put_size.Statement.{statement}
-use Rattle.show.proofs.words.put_size.Tie as tie
+use Rattle.show.proofs.lines.put_size.Statement.{statement}
+use Rattle.show.proofs.lines.put_size.Tie as tie
 
 slice-aggregate-put : tie.Need-slice-aggregate-put
 slice-aggregate-put c = search needs

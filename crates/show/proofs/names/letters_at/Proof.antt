@@ -3,8 +3,8 @@ use native.Mathlib.Omega.{arith}
 use borrow.Author.Needs.{needs}
 use borrow.Author.Tests.{eq-eqb, ne-eqb}
 use Rattle.show.specs.Names.{lettersAt}
-use Rattle.show.proofs.words.letters_at.Statement.{statement}
-use Rattle.show.proofs.words.letters_at.Tie as tie
+use Rattle.show.proofs.names.letters_at.Statement.{statement}
+use Rattle.show.proofs.names.letters_at.Tie as tie
 
 add-if1 : tie.Need-add-if1
 add-if1 c = search needs

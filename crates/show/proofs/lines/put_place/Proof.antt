@@ -6,8 +6,8 @@ use denote.Ref.{now}
 use Rattle.laws.proofs.Lending.{back, Going, first, next, inside, fits, fits-first, ends, whole}
 use Rattle.show.specs.Ascii.{ascii}
 use Rattle.show.specs.Words.{hex, text, wordBytes, placeOf}
-use Rattle.show.proofs.words.put_place.Statement.{statement}
-use Rattle.show.proofs.words.put_place.Tie as tie
+use Rattle.show.proofs.lines.put_place.Statement.{statement}
+use Rattle.show.proofs.lines.put_place.Tie as tie
 
 slice-aggregate-put : tie.Need-slice-aggregate-put
 slice-aggregate-put c = search needs

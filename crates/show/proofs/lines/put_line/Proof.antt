@@ -2,8 +2,8 @@
 use borrow.Author.Needs.{needs}
 use Rattle.show.specs.Ascii.{ascii}
 use Rattle.show.specs.Words.{lineOf}
-use Rattle.show.proofs.words.put_line.Statement.{statement}
-use Rattle.show.proofs.words.put_line.Tie as tie
+use Rattle.show.proofs.lines.put_line.Statement.{statement}
+use Rattle.show.proofs.lines.put_line.Tie as tie
 
 enum-known-e : tie.Need-enum-known-e
 enum-known-e c = search needs

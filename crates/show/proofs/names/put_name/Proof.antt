@@ -5,8 +5,8 @@ use Rattle.registers.proofs.Tables.{past-all}
 use Rattle.show.specs.Ascii.{ascii}
 use Rattle.show.specs.Words.{names, wordBytes}
 use Rattle.show.proofs.Cells.{name-0, name-1, name-2, name-3, name-4, name-of, no-name}
-use Rattle.show.proofs.words.put_name.Statement.{statement}
-use Rattle.show.proofs.words.put_name.Tie as tie
+use Rattle.show.proofs.names.put_name.Statement.{statement}
+use Rattle.show.proofs.names.put_name.Tie as tie
 
 slice-aggregate-put-named : tie.Need-slice-aggregate-put-named
 slice-aggregate-put-named c = search needs

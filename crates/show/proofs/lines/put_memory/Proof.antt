@@ -5,8 +5,8 @@ use borrow.Author.Needs.{needs}
 use denote.Ref.{now}
 use Rattle.laws.proofs.Lending.{back, Going, first, next, inside, fits, fits-first, ends, whole}
 use Rattle.show.specs.Words.{letters, wordBytes, placeOf, sizeOf, memoryLine}
-use Rattle.show.proofs.words.put_memory.Statement.{statement}
-use Rattle.show.proofs.words.put_memory.Tie as tie
+use Rattle.show.proofs.lines.put_memory.Statement.{statement}
+use Rattle.show.proofs.lines.put_memory.Tie as tie
 
 put-requires : tie.Need-put-requires
 unfolding memoryLine

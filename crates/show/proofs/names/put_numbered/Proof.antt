@@ -6,8 +6,8 @@ use denote.Ref.{now}
 use Rattle.laws.proofs.Lending.{back, Going, first, next, inside, fits, fits-first, ends, whole}
 use Rattle.laws.specs.Lists.{flat}
 use Rattle.show.specs.Words.{letters, decimal, wordBytes, numbered}
-use Rattle.show.proofs.words.put_numbered.Statement.{statement}
-use Rattle.show.proofs.words.put_numbered.Tie as tie
+use Rattle.show.proofs.names.put_numbered.Statement.{statement}
+use Rattle.show.proofs.names.put_numbered.Tie as tie
 
 put-requires : tie.Need-put-requires
 unfolding flat numbered

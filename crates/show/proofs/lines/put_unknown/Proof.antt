@@ -6,8 +6,8 @@ use denote.Ref.{now}
 use Rattle.laws.proofs.Lending.{back, Going, first, next, inside, fits, fits-first, ends, whole}
 use Rattle.show.specs.Ascii.{ascii}
 use Rattle.show.specs.Words.{letters, text, wordBytes, sizeOf, unknownLine}
-use Rattle.show.proofs.words.put_unknown.Statement.{statement}
-use Rattle.show.proofs.words.put_unknown.Tie as tie
+use Rattle.show.proofs.lines.put_unknown.Statement.{statement}
+use Rattle.show.proofs.lines.put_unknown.Tie as tie
 
 put-requires : tie.Need-put-requires
 unfolding ascii unknownLine
