@@ -17,7 +17,6 @@ use Rattle.record.specs.Records.{isRecord, recordOf, outside, recordRefusal}
 use Rattle.record.proofs.Laws.{passed}
 use Rattle.definition.specs.Refusals.{noRoom}
 use Rattle.definition.specs.Visits.{outcome}
-use Rattle.definition.specs.declared.Answer.{Answer}
 use Rattle.definition.specs.declared.Answer.the-variants.{Done, Refused, Complex}
 
 -- A table of refusals in two parts: the first part refuses, or it passes and the second part decides

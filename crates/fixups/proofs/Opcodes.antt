@@ -2,7 +2,7 @@
 use Prim.Native.Nat.{ℕ, zero-le, _+_, _-_, _≤_, _<_}
 use native.Mathlib.Nat.{eq-zero-or-pos}
 use native.Mathlib.Omega.{arith}
-use mathlib.Core.Path.{_≡_, refl, ap, _∙_}
+use mathlib.Core.Path.{_≡_, refl}
 use mathlib.Core.Logic.{_⊎_, ⊎-elim}
 use lib.ListN.{List·getD-eq-default}
 use Rattle.laws.proofs.Span.{all, span, span-but}

@@ -1,7 +1,7 @@
 -- Which specs are memory, by their numbers, and a test of the operands below a count. Assumes nothing.
 use Prim.Native.Nat.{ℕ, zero, suc}
 use mathlib.Core.Path.{_≡_, refl, sym, ap, _∙_}
-use mathlib.Core.Bool.{Bool, true, false, _&&_, _||_, and-comm, or-false, or-assoc}
+use mathlib.Core.Bool.{Bool, false, _&&_, _||_, and-comm, or-false, or-assoc}
 use mathlib.Core.List.{List, [], _∷_, map}
 use lib.Dec.{ltb, leb, leb·zero, leb·suc-zero, leb·suc-suc}
 use native.Mathlib.Omega.{arith}

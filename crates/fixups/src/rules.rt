@@ -146,7 +146,8 @@ fn fix_insertq(x: Record) -> BehaviorDigest
     ensures { λ r. ⌜ r ≡ fixUp insertq x (x .digest) ⌝ }
 {
     let d = x.digest;
-    if x.count > 2 {
+    let count = x.count;
+    if count > 2 {
         let read = with_access(d, 2, Access::Read);
         with_access(read, 3, Access::Read)
     } else {

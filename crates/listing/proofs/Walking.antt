@@ -1,8 +1,7 @@
 -- A step of the walk takes the first of the items that are left, and leaves the others. Assumes nothing.
 use Prim.Native.Nat.{ℕ, zero, suc, _+_, _-_, _≤_, _<_}
-use native.Mathlib.Numerals.{add-one}
 use native.Mathlib.Omega.{arith}
-use borrow.Author.Tests.{eqb-true, ne-eqb, eq-eqb}
+use borrow.Author.Tests.{ne-eqb, eq-eqb}
 use mathlib.Core.Path.{_≡_, refl, sym, ap, _∙_}
 use mathlib.Core.Logic.{_⊎_, ⊎-elim}
 use mathlib.Core.Bool.{Bool, true, false, cond}
@@ -16,7 +15,7 @@ use Rattle.access.specs.Accesses.{accessNumber, accessOf}
 use Rattle.access.specs.declared.Access.{Access}
 use Rattle.access.specs.declared.Access.the-variants.{None, Read, Write, ReadWrite}
 use Rattle.digest.specs.Digests.{flagsAccess}
-use Rattle.implicit.specs.Lists.{implicitOf, entryAt}
+use Rattle.implicit.specs.Lists.{entryAt}
 use Rattle.implicit.specs.declared.Entry.{Entry}
 use Rattle.implicit.specs.declared.Entry.the-variants.{Operand, Slot, End}
 use Rattle.implicit.proofs.Laws.{isEnd, step, stop}

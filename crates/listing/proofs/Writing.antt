@@ -2,7 +2,7 @@
 use Prim.Native.Nat.{ℕ, _+_, _≤_, _<_}
 use native.Mathlib.Omega.{arith}
 use native.Mathlib.Numerals.{add-one}
-use mathlib.Core.Path.{_≡_, refl, sym, ap, _∙_}
+use mathlib.Core.Path.{_≡_, refl, sym, ap}
 use mathlib.Core.List.{List, [], _∷_, _++_, append-nil}
 use lib.ListN.{length, drop, set, length-append}
 use Rattle.laws.specs.Words.{little}
@@ -12,7 +12,6 @@ use Rattle.laws.proofs.Lending.{part, back, laid, stored, same-long}
 use Rattle.access.specs.Accesses.{accessNumber}
 use Rattle.access.specs.declared.Access.{Access}
 use Rattle.implicit.specs.declared.ImplicitOperand.{ImplicitOperand}
-use Rattle.definition.specs.declared.Item.{Item}
 use Rattle.definition.specs.declared.Item.the-variants.{Implicit}
 use Rattle.definition.specs.Listings.{operandBytes, itemBytes}
 

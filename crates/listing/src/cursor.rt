@@ -10,9 +10,11 @@ use record::Record;
 use registers::RegSpec;
 ghost use mathlib.Core.Path.{_≡_};
 ghost use mathlib.Core.Bool.{false};
-ghost use Prim.Native.Nat.{_<_};
+ghost use Prim.Native.Nat.{_+_, _<_};
 ghost use Rattle.definition.specs.Listings.{wayAccess, explicitAt};
-ghost use Rattle.listing.specs.Cursors.{place, explicitNext, implicitNext, flagsNext, nextOf, Walked};
+ghost use Rattle.definition.specs.declared.Item.the-variants.{Implicit};
+ghost use Rattle.listing.specs.declared.Listed.the-variants.{Found};
+ghost use Rattle.listing.specs.Cursors.{place, explicitNext, implicitNext, flagsNext, Walked};
 
 impl AccessIter {
     pub fn new() -> AccessIter
@@ -64,25 +66,26 @@ fn implicit_next(x: Record, i: u8) -> Listed
     let digest = x.digest;
     let entry = implicit::implicit_entry(digest.extra, i);
     match entry {
-        Entry::Operand(o, way) => Listed::Found(
-            Item::Implicit(o, access_of(way)),
-            AccessIter {
-                explicit: false,
-                next: i + 2,
-            },
-        ),
+        Entry::Operand(o, way) => implicit_found(o, way, i),
         Entry::Slot(_, way) => {
             let rdi = RegSpec { bank: 0, number: 7 };
-            Listed::Found(
-                Item::Implicit(ImplicitOperand::MemDeref(rdi), access_of(way)),
-                AccessIter {
-                    explicit: false,
-                    next: i + 2,
-                },
-            )
+            implicit_found(ImplicitOperand::MemDeref(rdi), way, i)
         }
         Entry::End => explicit_next(x, 0),
     }
+}
+
+fn implicit_found(o: ImplicitOperand, way: Way, i: u8) -> Listed
+    requires { ⌜ i < 4 ⌝ }
+    ensures { λ r. ⌜ r ≡ Found (Implicit o (wayAccess way)) (place false (i + 2)) ⌝ }
+{
+    Listed::Found(
+        Item::Implicit(o, access_of(way)),
+        AccessIter {
+            explicit: false,
+            next: i + 2,
+        },
+    )
 }
 
 fn access_of(way: Way) -> Access
@@ -114,11 +117,8 @@ fn explicit_next(x: Record, i: u8) -> Listed
 }
 
 fn explicit_item(x: Record, i: u8) -> Item
-    requires { ⌜ i < 4 ⌝ }
     ensures { λ r. ⌜ r ≡ explicitAt x i ⌝ }
 {
-    let specs = x.specs;
     let digest = x.digest;
-    let at = i as usize;
-    Item::Explicit(i, specs[at], digest.operand_access(i))
+    Item::Explicit(i, x.spec(i), digest.operand_access(i))
 }

@@ -3,6 +3,7 @@ mod call;
 mod cursor;
 mod items;
 
+pub use call::list_operands;
 pub use call::put_listing;
 use definition::Item;
 pub use items::put_item;

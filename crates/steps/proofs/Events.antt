@@ -1,5 +1,4 @@
--- What the segments that are written mean: events of registers as steps, and the events of a touch in the pieces in which they are
--- written. Assumes nothing.
+-- Events that are those of steps: registers that are read or written, for which no register file is asked. Assumes nothing.
 use Prim.Native.Nat.{ℕ, _≤_}
 use mathlib.Core.Path.{_≡_, refl, sym, ap, _∙_}
 use mathlib.Core.Bool.{Bool, true, false, cond}
@@ -8,25 +7,15 @@ use Rattle.laws.specs.Lists.{each, flat}
 use Rattle.laws.specs.Lending.{size, Logged}
 use Rattle.registers.specs.declared.RegSpec.{RegSpec}
 use Rattle.registers.specs.declared.RegisterFile.{RegisterFile}
-use Rattle.access.specs.Accesses.{reading, writing}
-use Rattle.digest.specs.Digests.{flagsAccess}
-use Rattle.implicit.specs.Lists.{implicitOf}
 use Rattle.implicit.specs.declared.Way.{Way}
 use Rattle.implicit.specs.declared.Way.the-variants.{Load, Store}
-use Rattle.definition.specs.Behaviors.{operandsOf}
-use Rattle.definition.specs.Addresses.{termRegisters, registersOf, addressOf}
-use Rattle.record.specs.Records.{regAt}
-use Rattle.record.specs.declared.Record.{Record}
-use Rattle.definition.specs.Steps.{Step, moves, reads, writes, touches, maskRegisters, maskSteps, widened, writePart, rflags, entrySteps, operandSteps, flagSteps, stepsOf}
-use Rattle.definition.specs.declared.Shape.the-variants.{Register}
-use Rattle.definition.specs.Logs.{memoryEvent, stepEvents, eventsOf, eventBytes, stepBytes}
-use Rattle.definition.specs.declared.Address.{Address}
+use Rattle.definition.specs.Steps.{Step, moves}
+use Rattle.definition.specs.Logs.{stepEvents, eventsOf, eventBytes, stepBytes}
 use Rattle.definition.specs.declared.Event.{Event}
 use Rattle.definition.proofs.Events.{steps-bytes, steps-size}
-use Rattle.steps.specs.Moves.{moveEvent, moved, touchReads, maskedWrite, operandWrite}
-use Rattle.steps.specs.Touches.{memorySteps}
+use Rattle.steps.specs.Moves.{moveEvent, moved}
 
--- events that are those of steps: written, they are the steps written, and they have the steps' room
+-- written, the events are the steps written, and they have the steps' room
 pub as-steps :
     (f : RegisterFile) (ss : List Step) {es : List Event} {old new : List ℕ} {n : ℕ}
     → eventsOf f ss ≡ es → Logged eventBytes es old new n → Logged (stepBytes f) ss old new n
@@ -37,20 +26,25 @@ pub as-events :
     → eventsOf f ss ≡ es → size (stepBytes f) ss ≤ k → size eventBytes es ≤ k
 as-events f ss e h = rw (steps-size f ss, e) at h
 
-map-append : {A B : Type 0} (g : A → B) (xs ys : List A) → map g (xs ++ ys) ≡ map g xs ++ map g ys
+pub map-append : {A B : Type 0} (g : A → B) (xs ys : List A) → map g (xs ++ ys) ≡ map g xs ++ map g ys
 map-append g [] ys = refl
 map-append g (x ∷ xs) ys = ap (λ (l : List _). g x ∷ l) (map-append g xs ys)
 
-each-append : {A B : Type 0} (g : A → List B) (xs ys : List A) → each g (xs ++ ys) ≡ each g xs ++ each g ys
+pub each-append : {A B : Type 0} (g : A → List B) (xs ys : List A) → each g (xs ++ ys) ≡ each g xs ++ each g ys
 unfolding each
 each-append g [] ys = refl
-each-append g (x ∷ xs) ys = ap (λ (l : List _). g x ++ l) (each-append g xs ys) ∙ sym (append-assoc (g x) (each g xs) (each g ys))
+each-append g (x ∷ xs) ys =
+    ap (λ (l : List _). g x ++ l) (each-append g xs ys) ∙ sym (append-assoc (g x) (each g xs) (each g ys))
 
+-- registers, one after the other
 pub moved-append : (w : Way) (xs ys : List RegSpec) → moved w (xs ++ ys) ≡ moved w xs ++ moved w ys
 unfolding moved
 moved-append w xs ys = map-append (moveEvent w) xs ys
 
--- registers read or written
+pub moved-cons : (w : Way) (y : RegSpec) (ys : List RegSpec) → moved w (y ∷ ys) ≡ flat (moved w (y ∷ []) ∷ moved w ys ∷ [])
+unfolding moved flat
+moved-cons w y ys = rw (append-nil (moved w ys))
+
 one-move : (f : RegisterFile) (w : Way) (y : RegSpec) → stepEvents f (moves w y) ≡ moveEvent w y ∷ []
 unfolding stepEvents
 one-move f Load y = refl
@@ -60,10 +54,6 @@ pub events-moved : (f : RegisterFile) (w : Way) (ys : List RegSpec) → eventsOf
 unfolding moved each
 events-moved f w [] = refl
 events-moved f w (y ∷ ys) = rw (one-move f w y) (ap (λ (l : List Event). moveEvent w y ∷ l) (events-moved f w ys))
-
-pub masked-split : (w : Way) (y : RegSpec) (ys : List RegSpec) → moved w (y ∷ ys) ≡ flat (moved w (y ∷ []) ∷ moved w ys ∷ [])
-unfolding moved flat
-masked-split w y ys = rw (append-nil (moved w ys)) refl
 
 pub moves-logged :
     (f : RegisterFile) (w : Way) (ys : List RegSpec) {old new : List ℕ} {n : ℕ}
@@ -75,7 +65,7 @@ pub moves-room :
     → size (stepBytes f) (map (moves w) ys) ≤ k → size eventBytes (moved w ys) ≤ k
 moves-room f w ys h = as-events f (map (moves w) ys) (events-moved f w ys) h
 
--- a register read or written where a test holds
+-- a register where a test holds
 moves-if : (w : Way) (on : Bool) (y : RegSpec) → map (moves w) (cond on (y ∷ []) []) ≡ cond on (moves w y ∷ []) []
 moves-if w true y = refl
 moves-if w false y = refl
@@ -89,45 +79,3 @@ pub room-if :
     (f : RegisterFile) (w : Way) (on : Bool) (y : RegSpec) {k : ℕ}
     → size (stepBytes f) (cond on (moves w y ∷ []) []) ≤ k → size eventBytes (moved w (cond on (y ∷ []) [])) ≤ k
 room-if f w on y h = moves-room f w (cond on (y ∷ []) []) (rw (moves-if w on y) h)
-
--- a register written by an explicit operand
-pub events-write :
-    (f : RegisterFile) (x : Record) (i : ℕ) (masked : Bool)
-    → eventsOf f (writePart x (Register i masked)) ≡ operandWrite (regAt x i) masked (x .mask)
-unfolding writePart operandWrite maskedWrite flat each
-events-write f x i false = events-moved f Store (widened (regAt x i) ∷ [])
-events-write f x i true =
-    each-append (stepEvents f) (maskSteps (x .mask)) (writes (regAt x i) ∷ [])
-    ∙ rw (events-moved f Load (maskRegisters (x .mask)), events-moved f Store (regAt x i ∷ []), append-nil (moved Store (regAt x i ∷ [])))
-
--- what LEA reads
-pub events-stopped : (f : RegisterFile) (a : Address) (m : ℕ) → eventsOf f (map reads (registersOf a) ++ maskSteps m) ≡ touchReads a m
-unfolding touchReads
-events-stopped f a m = rw (← map-append reads (registersOf a) (maskRegisters m)) (events-moved f Load (registersOf a ++ maskRegisters m))
-
--- the registers that a touch reads, in the pieces in which they are written
-pub reads-split :
-    (a : Address) (m : ℕ)
-    → touchReads a m ≡ flat (moved Load (termRegisters (a .base)) ∷ moved Load (termRegisters (a .index)) ∷ moved Load (maskRegisters m) ∷ [])
-unfolding touchReads registersOf flat
-reads-split a m = simp (moved-append, append-assoc, append-nil)
-
--- a touch: its reads, then its access
-pub touch-split :
-    (f : RegisterFile) (w : Way) (a : Address) (m n : ℕ)
-    → stepEvents f (touches w a m n) ≡ flat (touchReads a m ∷ (memoryEvent w (addressOf f a) n ∷ []) ∷ [])
-unfolding stepEvents touchReads moved flat
-touch-split f w a m n = simp (map-append, append-assoc)
-
--- the flags, in two pieces
-abbrev pub flagsRead : Record → List Step
-flagsRead x = cond (reading (flagsAccess (x .digest))) (reads rflags ∷ []) []
-
-abbrev pub flagsWrite : Record → List Step
-flagsWrite x = cond (writing (flagsAccess (x .digest))) (writes rflags ∷ []) []
-
-pub steps-split :
-    (x : Record)
-    → stepsOf x ≡ flat (each (entrySteps x) (implicitOf (x .digest .extra)) ∷ flagsRead x ∷ flagsWrite x ∷ each (operandSteps x) (operandsOf x) ∷ [])
-unfolding stepsOf flagSteps flat
-steps-split x = simp (append-assoc, append-nil)

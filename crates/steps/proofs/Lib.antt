@@ -1,3 +1,6 @@
 pub mod Events
+pub mod Pieces
+pub mod Shapes
 pub mod Walks
 pub mod Implicits
+pub mod Flags

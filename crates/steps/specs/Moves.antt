@@ -23,10 +23,19 @@ moved w ys = map (moveEvent w) ys
 unfoldable pub touchReads : Address → ℕ → List Event
 touchReads a m = moved Load (registersOf a ++ maskRegisters m)
 
--- a register written under a mask: the mask is read first, and the register is written as it is
+-- a register that an operand reads: the mask after it
+abbrev pub registerRead : RegSpec → ℕ → List Event
+registerRead y m = moved Load (y ∷ maskRegisters m)
+
+-- a register that an operand writes under a mask: the mask before it, and the register as it is
 unfoldable pub maskedWrite : RegSpec → ℕ → List Event
 maskedWrite y m = flat (moved Load (maskRegisters m) ∷ moved Store (y ∷ []) ∷ [])
 
--- a register written by an explicit operand: without a mask it is widened
-unfoldable pub operandWrite : RegSpec → Bool → ℕ → List Event
-operandWrite y masked m = cond masked (maskedWrite y m) (moved Store (widened y ∷ []))
+-- without a mask it is widened
+unfoldable pub registerWrite : RegSpec → Bool → ℕ → List Event
+registerWrite y masked m = cond masked (maskedWrite y m) (moved Store (widened y ∷ []))
+
+-- a register operand: its read part where it is read, then its write part where it is written
+unfoldable pub registerOperand : RegSpec → Bool → ℕ → Bool → Bool → List Event
+registerOperand y masked m read write =
+    flat (cond read (registerRead y m) [] ∷ cond write (registerWrite y masked m) [] ∷ [])

@@ -1,9 +1,10 @@
--- Names for what the writers of memory write, in the words of the definition.
+-- Memory that is touched, as steps.
 use Prim.Native.Nat.{ℕ}
 use mathlib.Core.List.{List, [], _∷_, _++_, map}
-use mathlib.Core.Bool.{Bool, cond}
-use Rattle.registers.specs.declared.RegSpec.{RegSpec}
+use mathlib.Core.Bool.{Bool, false, cond}
+use Rattle.laws.specs.Lists.{flat}
 use Rattle.implicit.specs.declared.Way.{Way}
+use Rattle.implicit.specs.declared.Way.the-variants.{Load, Store}
 use Rattle.implicit.specs.declared.ImplicitOperand.{ImplicitOperand}
 use Rattle.implicit.specs.declared.ImplicitOperand.the-variants.{Register, MemDeref, Disp, MemBaseIndexScale}
 use Rattle.definition.specs.Addresses.{signed32, registersOf}
@@ -14,6 +15,11 @@ use Rattle.definition.specs.declared.Term.the-variants.{Absent, Plain, Scaled}
 -- a touch; where it stops, all of it but the access
 unfoldable pub memorySteps : Way → Address → ℕ → ℕ → Bool → List Step
 memorySteps w a m n stops = cond stops (map reads (registersOf a) ++ maskSteps m) (touches w a m n ∷ [])
+
+-- a memory operand: its read part where it is read, which stops under LEA, then its write part where it is written, which does not
+unfoldable pub memoryOperand : Address → ℕ → ℕ → Bool → Bool → Bool → List Step
+memoryOperand a m n lea read write =
+    flat (cond read (memorySteps Load a m n lea) [] ∷ cond write (memorySteps Store a m n false) [] ∷ [])
 
 -- the address of an implicit memory form
 unfoldable pub implicitAddress : ImplicitOperand → Address

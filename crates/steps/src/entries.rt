@@ -6,17 +6,15 @@ use definition::Address;
 use definition::Term;
 use implicit::Entry;
 use implicit::ImplicitOperand;
-use implicit::Way;
 use record::Record;
 use registers::RegisterFile;
 ghost use mathlib.Core.Path.{_≡_};
-ghost use mathlib.Core.List.{_∷_, []};
 ghost use Prim.Native.Nat.{_≤_};
 ghost use lib.ListN.{length};
 ghost use Rattle.laws.specs.Lists.{each};
 ghost use Rattle.laws.specs.Lending.{size, Logged};
 ghost use Rattle.implicit.specs.Lists.{implicitOf};
-ghost use Rattle.definition.specs.Steps.{implicitStep, entrySteps};
+ghost use Rattle.definition.specs.Steps.{entrySteps};
 ghost use Rattle.definition.specs.Logs.{stepBytes};
 ghost use Rattle.steps.specs.Touches.{implicitAddress};
 
@@ -47,26 +45,19 @@ fn implicit_address(o: ImplicitOperand) -> Address
     }
 }
 
-// A register is read or written; a memory form is touched, under no mask.
-fn put_implicit(log: &mut [u8], f: RegisterFile, way: Way, o: ImplicitOperand, n: u8) -> usize
-    requires { ⌜ size (stepBytes f) (implicitStep n way o ∷ []) ≤ length (now log) ⌝ }
-    ensures { λ r. ⌜ Logged (stepBytes f) (implicitStep n way o ∷ []) (now (log .entry)) (now (log .exit)) r ⌝ }
-{
-    let a = implicit_address(o);
-    if let ImplicitOperand::Register(y) = o {
-        put_move(log, way, y)
-    } else {
-        put_touch(log, f, way, a, 0, n)
-    }
-}
-
 // A string slot logs its register and no memory.
 fn put_entry(log: &mut [u8], f: RegisterFile, x: Record, e: Entry) -> usize
     requires { ⌜ size (stepBytes f) (entrySteps x e) ≤ length (now log) ⌝ }
     ensures { λ r. ⌜ Logged (stepBytes f) (entrySteps x e) (now (log .entry)) (now (log .exit)) r ⌝ }
 {
     match e {
-        Entry::Operand(o, way) => put_implicit(log, f, way, o, x.size),
+        Entry::Operand(o, way) => {
+            if let ImplicitOperand::Register(y) = o {
+                put_move(log, way, y)
+            } else {
+                put_touch(log, f, way, implicit_address(o), 0, x.size)
+            }
+        }
         Entry::Slot(i, way) => put_term(log, way, address::slot_register(x, i)),
         Entry::End => 0,
     }

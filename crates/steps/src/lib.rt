@@ -2,7 +2,7 @@
 mod entries;
 mod log;
 mod moves;
-mod parts;
+mod operands;
 mod touches;
 
 pub use log::put_log;

@@ -1,7 +1,7 @@
 // The whole log of a visit.
 use crate::entries::put_entries;
 use crate::moves::put_move;
-use crate::parts::put_operands;
+use crate::operands::put_operands;
 use implicit::Way;
 use record::Record;
 use registers::RegSpec;

@@ -4,15 +4,15 @@ use definition::Term;
 use implicit::Way;
 use registers::RegSpec;
 ghost use mathlib.Core.Path.{_≡_};
+ghost use mathlib.Core.Bool.{cond};
 ghost use mathlib.Core.List.{_∷_, []};
 ghost use Prim.Native.Nat.{_≤_};
 ghost use lib.ListN.{length};
 ghost use Rattle.laws.specs.Lending.{size, Logged};
-ghost use Rattle.implicit.specs.declared.Way.the-variants.{Load};
 ghost use Rattle.definition.specs.Addresses.{termRegisters};
 ghost use Rattle.definition.specs.Steps.{maskRegisters};
 ghost use Rattle.definition.specs.Logs.{eventBytes};
-ghost use Rattle.steps.specs.Moves.{moved, touchReads, maskedWrite, operandWrite};
+ghost use Rattle.steps.specs.Moves.{moved, touchReads, registerRead, maskedWrite, registerWrite, registerOperand};
 
 // Mask 0 is never logged.
 fn mask_term(m: u8) -> Term
@@ -60,10 +60,10 @@ pub fn put_address(log: &mut [u8], a: Address, m: u8) -> usize
     c + put_term(&mut log[c..], Way::Load, mask)
 }
 
-// Under a mask: the register, then the mask.
-pub fn put_masked_read(log: &mut [u8], y: RegSpec, m: u8) -> usize
-    requires { ⌜ size eventBytes (moved Load (y ∷ maskRegisters m)) ≤ length (now log) ⌝ }
-    ensures { λ r. ⌜ Logged eventBytes (moved Load (y ∷ maskRegisters m)) (now (log .entry)) (now (log .exit)) r ⌝ }
+// The read part of a register operand: the register, then the mask.
+fn put_read(log: &mut [u8], y: RegSpec, m: u8) -> usize
+    requires { ⌜ size eventBytes (registerRead y m) ≤ length (now log) ⌝ }
+    ensures { λ r. ⌜ Logged eventBytes (registerRead y m) (now (log .entry)) (now (log .exit)) r ⌝ }
 {
     let register = Term::Plain(y);
     let mask = mask_term(m);
@@ -71,7 +71,7 @@ pub fn put_masked_read(log: &mut [u8], y: RegSpec, m: u8) -> usize
     n + put_term(&mut log[n..], Way::Load, mask)
 }
 
-// Under a mask: the mask, then the register.
+// Its write part under a mask: the mask, then the register.
 fn put_masked_write(log: &mut [u8], y: RegSpec, m: u8) -> usize
     requires { ⌜ size eventBytes (maskedWrite y m) ≤ length (now log) ⌝ }
     ensures { λ r. ⌜ Logged eventBytes (maskedWrite y m) (now (log .entry)) (now (log .exit)) r ⌝ }
@@ -83,9 +83,9 @@ fn put_masked_write(log: &mut [u8], y: RegSpec, m: u8) -> usize
 }
 
 // A write that no mask holds back zero-extends.
-pub fn put_write(log: &mut [u8], y: RegSpec, masked: bool, m: u8) -> usize
-    requires { ⌜ size eventBytes (operandWrite y masked m) ≤ length (now log) ⌝ }
-    ensures { λ r. ⌜ Logged eventBytes (operandWrite y masked m) (now (log .entry)) (now (log .exit)) r ⌝ }
+fn put_write(log: &mut [u8], y: RegSpec, masked: bool, m: u8) -> usize
+    requires { ⌜ size eventBytes (registerWrite y masked m) ≤ length (now log) ⌝ }
+    ensures { λ r. ⌜ Logged eventBytes (registerWrite y masked m) (now (log .entry)) (now (log .exit)) r ⌝ }
 {
     let wide = address::apply_x86_zext(y);
     if masked {
@@ -93,4 +93,34 @@ pub fn put_write(log: &mut [u8], y: RegSpec, masked: bool, m: u8) -> usize
     } else {
         put_move(log, Way::Store, wide)
     }
+}
+
+fn put_read_if(log: &mut [u8], on: bool, y: RegSpec, m: u8) -> usize
+    requires { ⌜ size eventBytes (cond on (registerRead y m) []) ≤ length (now log) ⌝ }
+    ensures { λ r. ⌜ Logged eventBytes (cond on (registerRead y m) []) (now (log .entry)) (now (log .exit)) r ⌝ }
+{
+    if on { put_read(log, y, m) } else { 0 }
+}
+
+fn put_write_if(log: &mut [u8], on: bool, y: RegSpec, masked: bool, m: u8) -> usize
+    requires { ⌜ size eventBytes (cond on (registerWrite y masked m) []) ≤ length (now log) ⌝ }
+    ensures { λ r. ⌜ Logged eventBytes (cond on (registerWrite y masked m) []) (now (log .entry)) (now (log .exit)) r ⌝ }
+{
+    if on { put_write(log, y, masked, m) } else { 0 }
+}
+
+// The read part, then the write part.
+pub fn put_register_operand(
+    log: &mut [u8],
+    y: RegSpec,
+    masked: bool,
+    m: u8,
+    read: bool,
+    write: bool,
+) -> usize
+    requires { ⌜ size eventBytes (registerOperand y masked m read write) ≤ length (now log) ⌝ }
+    ensures { λ r. ⌜ Logged eventBytes (registerOperand y masked m read write) (now (log .entry)) (now (log .exit)) r ⌝ }
+{
+    let n = put_read_if(log, read, y, m);
+    n + put_write_if(&mut log[n..], write, y, masked, m)
 }

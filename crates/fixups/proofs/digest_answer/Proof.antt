@@ -1,18 +1,14 @@
-use Rattle.fixups.proofs.Answers.{when-refused, when-read}
-use Rattle.record.specs.declared.Record.{Record}
-use Rattle.digest.specs.declared.DigestAnswer.{DigestAnswer}
-use Rattle.digest.specs.Digests.{emptyDigest}
-use Rattle.definition.specs.Behaviors.{digestOf, digestCall}
+-- `digest_answer` meets its contract: the digest of the record that was read, or the refusal. Assumes nothing.
+use borrow.Author.Needs.{needs}
 use Prim.Native.Nat.{ℕ}
 use denote.Ref.{now}
-use borrow.Author.Needs.{needs}
+use Rattle.digest.specs.Digests.{emptyDigest}
+use Rattle.digest.specs.declared.DigestAnswer.{DigestAnswer}
+use Rattle.record.specs.declared.Record.{Record}
+use Rattle.definition.specs.Behaviors.{digestOf, digestCall}
+use Rattle.fixups.proofs.Answers.{when-refused, when-read}
 use Rattle.fixups.proofs.digest_answer.Statement.{statement}
 use Rattle.fixups.proofs.digest_answer.Tie as tie
-use Rattle.fixups.proofs.digest_answer.Reads as reads
-use Rattle.fixups.proofs.digest_answer.Lts as lts
-use Rattle.digest.proofs.BehaviorDigest.empty.Reads as empty-reads
-use Rattle.fixups.proofs.digest_of.Reads as digest-of-reads
-use Rattle.record.proofs.Record.from_bytes.Reads as from-bytes-reads
 
 abbrev read : Record → DigestAnswer
 read x = record { number = 0; digest = digestOf x }
@@ -28,14 +24,20 @@ empty-requires c κs = search needs
 
 returns : tie.Need-returns
 unfolding digestCall
-returns c = let s = c .before .before .before in rw (c .empty .ensures) (when-refused (now (s .before .before .args .b)) (s .from-bytes .result) (s .from-bytes .ensures) read refused (c .before .if1 .taken))
+returns c =
+    let s = c .before .before .before in
+    rw (c .empty .ensures)
+    (when-refused (now (s .before .before .args .b)) (s .from-bytes .result) (s .from-bytes .ensures) read refused (c .before .if1 .taken))
 
 digest-of-requires : tie.Need-digest-of-requires
 digest-of-requires c κs = search needs
 
 returns-2 : tie.Need-returns-2
 unfolding digestCall
-returns-2 c = let s = c .before .before .before in rw (c .digest-of .ensures) (when-read (now (s .before .before .args .b)) (s .from-bytes .result) (s .from-bytes .ensures) read refused (c .before .if1 .left))
+returns-2 c =
+    let s = c .before .before .before in
+    rw (c .digest-of .ensures)
+    (when-read (now (s .before .before .args .b)) (s .from-bytes .result) (s .from-bytes .ensures) read refused (c .before .if1 .left))
 
 pub digest-answer-spec : {M : Type 1} → statement M
 digest-answer-spec =

@@ -1,12 +1,9 @@
+-- `digest_of` meets its contract: the fix-up where nontrivial is set, and the base digest otherwise. Assumes nothing.
+use borrow.Author.Needs.{needs}
 use mathlib.Core.Path.{sym, _∙_}
 use Rattle.definition.specs.Behaviors.{digestOf}
-use borrow.Author.Needs.{needs}
 use Rattle.fixups.proofs.digest_of.Statement.{statement}
 use Rattle.fixups.proofs.digest_of.Tie as tie
-use Rattle.fixups.proofs.digest_of.Reads as reads
-use Rattle.fixups.proofs.digest_of.Lts as lts
-use Rattle.digest.proofs.BehaviorDigest.is_nontrivial.Reads as is-nontrivial-reads
-use Rattle.fixups.proofs.rules.fix_up.Reads as fix-up-reads
 
 is-nontrivial-requires : tie.Need-is-nontrivial-requires
 is-nontrivial-requires c κs = search needs

@@ -1,19 +1,14 @@
-use Rattle.fixups.proofs.Answers.{when-refused, when-read}
-use Rattle.record.specs.declared.Record.{Record}
-use Rattle.access.specs.declared.InfoAnswer.{InfoAnswer}
-use Rattle.access.specs.Exceptions.{infoOf}
-use Rattle.definition.specs.Behaviors.{exceptionsOf, fixedUp, exceptionsCall}
+-- `exceptions_answer` meets its contract: the exceptions of the record that was read, or the refusal. Assumes nothing.
+use borrow.Author.Needs.{needs}
 use Prim.Native.Nat.{ℕ}
 use denote.Ref.{now}
-use borrow.Author.Needs.{needs}
+use Rattle.access.specs.Exceptions.{infoOf}
+use Rattle.access.specs.declared.InfoAnswer.{InfoAnswer}
+use Rattle.record.specs.declared.Record.{Record}
+use Rattle.definition.specs.Behaviors.{exceptionsOf, fixedUp, exceptionsCall}
+use Rattle.fixups.proofs.Answers.{when-refused, when-read}
 use Rattle.fixups.proofs.exceptions_answer.Statement.{statement}
 use Rattle.fixups.proofs.exceptions_answer.Tie as tie
-use Rattle.fixups.proofs.exceptions_answer.Reads as reads
-use Rattle.fixups.proofs.exceptions_answer.Lts as lts
-use Rattle.access.proofs.ExceptionInfo.empty.Reads as empty-reads
-use Rattle.fixups.proofs.exceptions_of.Reads as exceptions-of-reads
-use Rattle.fixups.proofs.fixed_up.Reads as fixed-up-reads
-use Rattle.record.proofs.Record.from_bytes.Reads as from-bytes-reads
 
 abbrev read : Record → InfoAnswer
 read x = record { number = 0; info = infoOf (exceptionsOf (fixedUp x)) }
@@ -29,7 +24,10 @@ empty-requires c κs = search needs
 
 returns : tie.Need-returns
 unfolding exceptionsCall
-returns c = let s = c .before .before .before in rw (c .empty .ensures) (when-refused (now (s .before .before .args .b)) (s .from-bytes .result) (s .from-bytes .ensures) read refused (c .before .if1 .taken))
+returns c =
+    let s = c .before .before .before in
+    rw (c .empty .ensures)
+    (when-refused (now (s .before .before .args .b)) (s .from-bytes .result) (s .from-bytes .ensures) read refused (c .before .if1 .taken))
 
 fixed-up-requires : tie.Need-fixed-up-requires
 fixed-up-requires c κs = search needs
@@ -39,7 +37,10 @@ exceptions-of-requires c κs = search needs
 
 returns-2 : tie.Need-returns-2
 unfolding exceptionsCall
-returns-2 c = let s = c .before .before .before .before in rw (c .exceptions-of .ensures, c .before .fixed-up .ensures) (when-read (now (s .before .before .args .b)) (s .from-bytes .result) (s .from-bytes .ensures) read refused (c .before .before .if1 .left))
+returns-2 c =
+    let s = c .before .before .before .before in
+    rw (c .exceptions-of .ensures, c .before .fixed-up .ensures)
+    (when-read (now (s .before .before .args .b)) (s .from-bytes .result) (s .from-bytes .ensures) read refused (c .before .before .if1 .left))
 
 pub exceptions-answer-spec : {M : Type 1} → statement M
 exceptions-answer-spec =

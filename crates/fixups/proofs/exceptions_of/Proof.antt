@@ -1,16 +1,11 @@
+-- `exceptions_of` meets its contract: a set of two vectors is the sum of their bits. Assumes nothing.
+use borrow.Author.Needs.{needs}
 use mathlib.Core.Path.{ap}
-use Rattle.fixups.proofs.Answers.{two-vectors}
 use Rattle.access.specs.Exceptions.{setOf, infoOf}
 use Rattle.definition.specs.Behaviors.{exceptionsOf, mayProtect, mayFault}
-use borrow.Author.Needs.{needs}
+use Rattle.fixups.proofs.Answers.{two-vectors}
 use Rattle.fixups.proofs.exceptions_of.Statement.{statement}
 use Rattle.fixups.proofs.exceptions_of.Tie as tie
-use Rattle.fixups.proofs.exceptions_of.Reads as reads
-use Rattle.fixups.proofs.exceptions_of.Lts as lts
-use Rattle.access.proofs.ExceptionInfo.empty.Reads as empty-reads
-use Rattle.access.proofs.ExceptionInfo.set.Reads as set-reads
-use Rattle.fixups.proofs.may_protect.Reads as may-protect-reads
-use Rattle.fixups.proofs.memory.may_fault.Reads as may-fault-reads
 
 empty-requires : tie.Need-empty-requires
 empty-requires c κs = search needs
@@ -29,7 +24,11 @@ set-requires-2 c κs = search needs
 
 returns : tie.Need-returns
 unfolding exceptionsOf setOf
-returns c = let x = c .before .before .before .before .before .before .before .args .x in rw (c .before .set2 .ensures, c .before .before .before .before .set .ensures, c .before .before .before .before .before .before .empty .ensures, c .before .before .before .before .before .may-protect .ensures, c .before .before .may-fault .ensures) (ap infoOf (two-vectors (mayProtect x) (mayFault x)))
+returns c =
+    let s = c .before .before .before .before in
+    let x = s .before .before .before .args .x in
+    rw (c .before .set2 .ensures, s .set .ensures, s .before .before .empty .ensures, s .before .may-protect .ensures, c .before .before .may-fault .ensures)
+    (ap infoOf (two-vectors (mayProtect x) (mayFault x)))
 
 pub exceptions-of-spec : {M : Type 1} → statement M
 exceptions-of-spec =

@@ -1,10 +1,8 @@
-use Rattle.definition.specs.Behaviors.{fixedUp}
+-- `fixed_up` meets its contract: the digest alone is changed. Assumes nothing.
 use borrow.Author.Needs.{needs}
+use Rattle.definition.specs.Behaviors.{fixedUp}
 use Rattle.fixups.proofs.fixed_up.Statement.{statement}
 use Rattle.fixups.proofs.fixed_up.Tie as tie
-use Rattle.fixups.proofs.fixed_up.Reads as reads
-use Rattle.fixups.proofs.fixed_up.Lts as lts
-use Rattle.fixups.proofs.digest_of.Reads as digest-of-reads
 
 digest-of-requires : tie.Need-digest-of-requires
 digest-of-requires c κs = search needs

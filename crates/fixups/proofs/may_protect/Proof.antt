@@ -1,11 +1,8 @@
-use Rattle.definition.specs.Behaviors.{mayProtect}
+-- `may_protect` meets its contract: the level's number is not 0. Assumes nothing.
 use borrow.Author.Needs.{needs}
+use Rattle.definition.specs.Behaviors.{mayProtect}
 use Rattle.fixups.proofs.may_protect.Statement.{statement}
 use Rattle.fixups.proofs.may_protect.Tie as tie
-use Rattle.fixups.proofs.may_protect.Reads as reads
-use Rattle.fixups.proofs.may_protect.Lts as lts
-use Rattle.access.proofs.PrivilegeLevel.to_bits.Reads as to-bits-reads
-use Rattle.digest.proofs.BehaviorDigest.privilege_level.Reads as privilege-level-reads
 
 privilege-level-requires : tie.Need-privilege-level-requires
 privilege-level-requires c κs = search needs

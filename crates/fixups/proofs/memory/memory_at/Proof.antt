@@ -1,11 +1,8 @@
-use borrow.Author.Tests.{lt-ltb, le-ltb}
+-- `memory_at` meets its contract: the place is below the count, and its spec is memory. Assumes nothing.
 use borrow.Author.Needs.{needs}
+use borrow.Author.Tests.{lt-ltb, le-ltb}
 use Rattle.fixups.proofs.memory.memory_at.Statement.{statement}
 use Rattle.fixups.proofs.memory.memory_at.Tie as tie
-use Rattle.fixups.proofs.memory.memory_at.Reads as reads
-use Rattle.fixups.proofs.memory.memory_at.Lts as lts
-use Rattle.fixups.proofs.memory.is_memory.Reads as is-memory-reads
-use Rattle.record.proofs.Record.spec.Reads as spec-reads
 
 spec-requires : tie.Need-spec-requires
 spec-requires c κs = search needs

@@ -1,14 +1,11 @@
+-- `by_width` meets its contract: each width leads to its list. Assumes nothing.
+use borrow.Author.Needs.{needs}
 use borrow.Author.Tests.{ne-eqb}
 use native.Mathlib.Nat.{add-zero}
 use mathlib.Core.Path.{sym, _∙_}
 use Rattle.definition.specs.Behaviors.{byWidth}
-use borrow.Author.Needs.{needs}
 use Rattle.fixups.proofs.rules.by_width.Statement.{statement}
 use Rattle.fixups.proofs.rules.by_width.Tie as tie
-use Rattle.fixups.proofs.rules.by_width.Reads as reads
-use Rattle.fixups.proofs.rules.by_width.Lts as lts
-use Rattle.fixups.proofs.rules.operand_width.Reads as operand-width-reads
-use Rattle.fixups.proofs.rules.with_list.Reads as with-list-reads
 
 operand-width-requires : tie.Need-operand-width-requires
 operand-width-requires c κs = search needs
@@ -48,7 +45,9 @@ returns-3 c = rw (sym (c .before .before .operand-width .ensures) ∙ c .before 
 
 returns-4 : tie.Need-returns-4
 unfolding byWidth
-returns-4 c = let ne = c .before .match .rest in rw (← c .before .before .operand-width .ensures, ne-eqb _ 1 (ne .0 .0 .1), ne-eqb _ 2 (ne .0 .1), ne-eqb _ 4 (ne .1)) (c .with-list4 .ensures)
+returns-4 c =
+    let ne = c .before .match .rest in
+    rw (← c .before .before .operand-width .ensures, ne-eqb _ 1 (ne .0 .0 .1), ne-eqb _ 2 (ne .0 .1), ne-eqb _ 4 (ne .1)) (c .with-list4 .ensures)
 
 pub by-width-spec : {M : Type 1} → statement M
 by-width-spec =

@@ -1,10 +1,8 @@
-use Rattle.definition.specs.Behaviors.{fixUp}
+-- `fix_cmpxchg` meets its contract: the lists from 9 on. Assumes nothing.
 use borrow.Author.Needs.{needs}
+use Rattle.definition.specs.Behaviors.{fixUp}
 use Rattle.fixups.proofs.rules.fix_cmpxchg.Statement.{statement}
 use Rattle.fixups.proofs.rules.fix_cmpxchg.Tie as tie
-use Rattle.fixups.proofs.rules.fix_cmpxchg.Reads as reads
-use Rattle.fixups.proofs.rules.fix_cmpxchg.Lts as lts
-use Rattle.fixups.proofs.rules.by_width.Reads as by-width-reads
 
 by-width-requires : tie.Need-by-width-requires
 by-width-requires c κs = search needs

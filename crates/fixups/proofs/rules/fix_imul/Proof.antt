@@ -1,12 +1,9 @@
+-- `fix_imul` meets its contract: each count leads to its change. Assumes nothing.
+use borrow.Author.Needs.{needs}
 use borrow.Author.Tests.{eq-eqb, ne-eqb}
 use Rattle.definition.specs.Behaviors.{fixUp, imulFix}
-use borrow.Author.Needs.{needs}
 use Rattle.fixups.proofs.rules.fix_imul.Statement.{statement}
 use Rattle.fixups.proofs.rules.fix_imul.Tie as tie
-use Rattle.fixups.proofs.rules.fix_imul.Reads as reads
-use Rattle.fixups.proofs.rules.fix_imul.Lts as lts
-use Rattle.fixups.proofs.rules.by_width.Reads as by-width-reads
-use Rattle.fixups.proofs.rules.with_access.Reads as with-access-reads
 
 by-width-requires : tie.Need-by-width-requires
 by-width-requires c κs = search needs
@@ -32,15 +29,17 @@ returns c = rw (eq-eqb _ 1 (c .before .match .keys1)) (c .by-width .ensures)
 
 returns-2 : tie.Need-returns-2
 unfolding fixUp imulFix
-returns-2 c = rw (c .before .before .match .keys2) (cc)
+returns-2 c = rw (c .before .before .match .keys2, c .with-access2 .ensures, c .before .with-access .ensures)
 
 returns-3 : tie.Need-returns-3
 unfolding fixUp imulFix
-returns-3 c = rw (c .before .before .before .match .keys3) (cc)
+returns-3 c = rw (c .before .before .before .match .keys3, c .with-access5 .ensures, c .before .with-access4 .ensures, c .before .before .with-access3 .ensures)
 
 returns-4 : tie.Need-returns-4
 unfolding fixUp imulFix
-returns-4 c = let ne = c .match .rest in rw (ne-eqb _ 1 (ne .0 .0 .1), ne-eqb _ 2 (ne .0 .1), ne-eqb _ 3 (ne .1))
+returns-4 c =
+    let ne = c .match .rest in
+    rw (ne-eqb _ 1 (ne .0 .0 .1), ne-eqb _ 2 (ne .0 .1), ne-eqb _ 3 (ne .1))
 
 pub fix-imul-spec : {M : Type 1} → statement M
 fix-imul-spec =

@@ -1,14 +1,9 @@
+-- `fix_loop` meets its contract: the list by REX W, and then by the operand size. Assumes nothing.
+use borrow.Author.Needs.{needs}
 use mathlib.Core.Path.{sym, _∙_}
 use Rattle.definition.specs.Behaviors.{fixUp}
-use borrow.Author.Needs.{needs}
 use Rattle.fixups.proofs.rules.fix_loop.Statement.{statement}
 use Rattle.fixups.proofs.rules.fix_loop.Tie as tie
-use Rattle.fixups.proofs.rules.fix_loop.Reads as reads
-use Rattle.fixups.proofs.rules.fix_loop.Lts as lts
-use Rattle.fixups.proofs.rules.one_list_of.Reads as one-list-of-reads
-use Rattle.fixups.proofs.rules.with_list.Reads as with-list-reads
-use Rattle.record.proofs.Record.operand_size.Reads as operand-size-reads
-use Rattle.record.proofs.Record.rex_w.Reads as rex-w-reads
 
 rex-w-requires : tie.Need-rex-w-requires
 rex-w-requires c κs = search needs
@@ -28,7 +23,7 @@ returns c = rw (sym (c .before .before .rex-w .ensures) ∙ c .before .if1 .take
 
 returns-2 : tie.Need-returns-2
 unfolding fixUp
-returns-2 c = rw (sym (c .before .before .before .rex-w .ensures) ∙ c .before .before .if1 .left) (cc)
+returns-2 c = rw (sym (c .before .before .before .rex-w .ensures) ∙ c .before .before .if1 .left, c .one-list-of .ensures, c .before .operand-size .ensures)
 
 pub fix-loop-spec : {M : Type 1} → statement M
 fix-loop-spec =

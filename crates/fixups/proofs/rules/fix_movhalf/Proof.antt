@@ -1,11 +1,9 @@
+-- `fix_movhalf` meets its contract: each count leads to its change. Assumes nothing.
+use borrow.Author.Needs.{needs}
 use borrow.Author.Tests.{eq-eqb, ne-eqb}
 use Rattle.definition.specs.Behaviors.{fixUp, movhalfFix}
-use borrow.Author.Needs.{needs}
 use Rattle.fixups.proofs.rules.fix_movhalf.Statement.{statement}
 use Rattle.fixups.proofs.rules.fix_movhalf.Tie as tie
-use Rattle.fixups.proofs.rules.fix_movhalf.Reads as reads
-use Rattle.fixups.proofs.rules.fix_movhalf.Lts as lts
-use Rattle.fixups.proofs.rules.with_access.Reads as with-access-reads
 
 with-access-requires : tie.Need-with-access-requires
 with-access-requires c κs = search needs
@@ -22,7 +20,7 @@ returns c = rw (eq-eqb _ _ (c .before .if1 .taken)) (c .with-access .ensures)
 
 returns-2 : tie.Need-returns-2
 unfolding fixUp movhalfFix
-returns-2 c = rw (ne-eqb _ _ (c .before .before .if1 .left)) (cc)
+returns-2 c = rw (ne-eqb _ _ (c .before .before .if1 .left), c .with-access3 .ensures, c .before .with-access2 .ensures)
 
 pub fix-movhalf-spec : {M : Type 1} → statement M
 fix-movhalf-spec =

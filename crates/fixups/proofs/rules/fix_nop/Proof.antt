@@ -1,11 +1,9 @@
+-- `fix_nop` meets its contract: the change under its test, and none otherwise. Assumes nothing.
+use borrow.Author.Needs.{needs}
 use borrow.Author.Tests.{eq-eqb, ne-eqb}
 use Rattle.definition.specs.Behaviors.{fixUp}
-use borrow.Author.Needs.{needs}
 use Rattle.fixups.proofs.rules.fix_nop.Statement.{statement}
 use Rattle.fixups.proofs.rules.fix_nop.Tie as tie
-use Rattle.fixups.proofs.rules.fix_nop.Reads as reads
-use Rattle.fixups.proofs.rules.fix_nop.Lts as lts
-use Rattle.fixups.proofs.rules.with_access.Reads as with-access-reads
 
 with-access-requires : tie.Need-with-access-requires
 with-access-requires c κs = search needs

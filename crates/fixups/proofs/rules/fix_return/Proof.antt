@@ -1,11 +1,9 @@
+-- `fix_return` meets its contract: the change under its test, and none otherwise. Assumes nothing.
+use borrow.Author.Needs.{needs}
 use borrow.Author.Tests.{eq-eqb, ne-eqb}
 use Rattle.definition.specs.Behaviors.{fixUp}
-use borrow.Author.Needs.{needs}
 use Rattle.fixups.proofs.rules.fix_return.Statement.{statement}
 use Rattle.fixups.proofs.rules.fix_return.Tie as tie
-use Rattle.fixups.proofs.rules.fix_return.Reads as reads
-use Rattle.fixups.proofs.rules.fix_return.Lts as lts
-use Rattle.fixups.proofs.rules.with_access.Reads as with-access-reads
 
 with-access-requires : tie.Need-with-access-requires
 with-access-requires c κs = search needs

@@ -1,26 +1,11 @@
+-- `fix_up` meets its contract: in each arm the rule of the table is the one that is called. Assumes nothing.
+use borrow.Author.Needs.{needs}
 use mathlib.Core.Logic.{inl, inr, ⊎-elim}
 use mathlib.Core.Path.{ap, refl}
 use Rattle.definition.specs.Tables.{ruleOf, div, movhalf, return, pcmpestri, pcmpestrm, loop}
 use Rattle.fixups.proofs.Opcodes.{ruled, rule-span, unruled}
-use borrow.Author.Needs.{needs}
 use Rattle.fixups.proofs.rules.fix_up.Statement.{statement}
 use Rattle.fixups.proofs.rules.fix_up.Tie as tie
-use Rattle.fixups.proofs.rules.fix_up.Reads as reads
-use Rattle.fixups.proofs.rules.fix_up.Lts as lts
-use Rattle.fixups.proofs.rules.fix_cmpxchg.Reads as fix-cmpxchg-reads
-use Rattle.fixups.proofs.rules.fix_div.Reads as fix-div-reads
-use Rattle.fixups.proofs.rules.fix_extrq.Reads as fix-extrq-reads
-use Rattle.fixups.proofs.rules.fix_imul.Reads as fix-imul-reads
-use Rattle.fixups.proofs.rules.fix_insertq.Reads as fix-insertq-reads
-use Rattle.fixups.proofs.rules.fix_loop.Reads as fix-loop-reads
-use Rattle.fixups.proofs.rules.fix_maskmov.Reads as fix-maskmov-reads
-use Rattle.fixups.proofs.rules.fix_movhalf.Reads as fix-movhalf-reads
-use Rattle.fixups.proofs.rules.fix_mul.Reads as fix-mul-reads
-use Rattle.fixups.proofs.rules.fix_mulx.Reads as fix-mulx-reads
-use Rattle.fixups.proofs.rules.fix_nop.Reads as fix-nop-reads
-use Rattle.fixups.proofs.rules.fix_pcmpestri.Reads as fix-pcmpestri-reads
-use Rattle.fixups.proofs.rules.fix_pcmpestrm.Reads as fix-pcmpestrm-reads
-use Rattle.fixups.proofs.rules.fix_return.Reads as fix-return-reads
 
 fix-mul-requires : tie.Need-fix-mul-requires
 fix-mul-requires c κs = search needs
@@ -98,30 +83,67 @@ returns-8 c = ruled (c .before .before .args .x) (ap ruleOf (c .before .match .k
 
 returns-9 : tie.Need-returns-9
 unfolding ruleOf
-returns-9 c = let x = c .before .before .before .before .args .x in ruled x (rule-span div (x .opcode) 1 4 (inl (c .before .before .before .match .rest .0 .0 .0 .0 .0 .0 .0 .1), (inl (c .before .before .before .match .rest .0 .0 .0 .0 .0 .0 .1), (inr refl, (inr refl, tt)))) (c .before .before .if1 .left) (c .before .if2 .taken)) (c .fix-div .ensures)
+returns-9 c =
+    let m = c .before .before .before in
+    let x = m .before .args .x in
+    let ne = m .match .rest in
+    ruled x
+    (rule-span div (x .opcode) 1 4 (inl (ne .0 .0 .0 .0 .0 .0 .0 .1), (inl (ne .0 .0 .0 .0 .0 .0 .1), (inr refl, (inr refl, tt)))) (c .before .before .if1 .left) (c .before .if2 .taken))
+    (c .fix-div .ensures)
 
 returns-10 : tie.Need-returns-10
 unfolding ruleOf
-returns-10 c = let x = c .before .before .before .before .before .args .x in ruled x (rule-span movhalf (x .opcode) 5 6 (inl (c .before .before .before .before .match .rest .0 .0 .0 .0 .0 .1), (inl (c .before .before .before .before .match .rest .0 .0 .0 .0 .1), (inr refl, (inr refl, (inr refl, (inr refl, tt)))))) (c .before .before .if2 .left) (c .before .if3 .taken)) (c .fix-movhalf .ensures)
+returns-10 c =
+    let m = c .before .before .before .before in
+    let x = m .before .args .x in
+    let ne = m .match .rest in
+    ruled x
+    (rule-span movhalf (x .opcode) 5 6 (inl (ne .0 .0 .0 .0 .0 .1), (inl (ne .0 .0 .0 .0 .1), (inr refl, (inr refl, (inr refl, (inr refl, tt)))))) (c .before .before .if2 .left) (c .before .if3 .taken))
+    (c .fix-movhalf .ensures)
 
 returns-11 : tie.Need-returns-11
 unfolding ruleOf
-returns-11 c = let x = c .before .before .before .before .before .before .args .x in ruled x (rule-span return (x .opcode) 11 4 (inl (c .before .before .before .before .before .match .rest .0 .0 .0 .1), (inl (c .before .before .before .before .before .match .rest .0 .0 .1), (inr refl, (inr refl, tt)))) (c .before .before .if3 .left) (c .before .if4 .taken)) (c .fix-return .ensures)
+returns-11 c =
+    let m = c .before .before .before .before .before in
+    let x = m .before .args .x in
+    let ne = m .match .rest in
+    ruled x
+    (rule-span return (x .opcode) 11 4 (inl (ne .0 .0 .0 .1), (inl (ne .0 .0 .1), (inr refl, (inr refl, tt)))) (c .before .before .if3 .left) (c .before .if4 .taken))
+    (c .fix-return .ensures)
 
 returns-12 : tie.Need-returns-12
 unfolding ruleOf
-returns-12 c = let x = c .before .before .before .before .before .before .before .args .x in ruled x (rule-span pcmpestri (x .opcode) 15 4 (inl (c .before .before .before .before .before .before .match .rest .0 .1), (inl (c .before .before .before .before .before .before .match .rest .1), (inr refl, (inr refl, tt)))) (c .before .before .if4 .left) (c .before .if5 .taken)) (c .fix-pcmpestri .ensures)
+returns-12 c =
+    let m = c .before .before .before .before .before .before in
+    let x = m .before .args .x in
+    let ne = m .match .rest in
+    ruled x
+    (rule-span pcmpestri (x .opcode) 15 4 (inl (ne .0 .1), (inl (ne .1), (inr refl, (inr refl, tt)))) (c .before .before .if4 .left) (c .before .if5 .taken))
+    (c .fix-pcmpestri .ensures)
 
 returns-13 : tie.Need-returns-13
 unfolding ruleOf
-returns-13 c = let x = c .before .before .before .before .before .before .before .before .args .x in ruled x (rule-span pcmpestrm (x .opcode) 19 2 (inr refl, (inr refl, tt)) (c .before .before .if5 .left) (c .before .if6 .taken)) (c .fix-pcmpestrm .ensures)
+returns-13 c =
+    let m = c .before .before .before .before .before .before .before in
+    let x = m .before .args .x in
+    ruled x
+    (rule-span pcmpestrm (x .opcode) 19 2 (inr refl, (inr refl, tt)) (c .before .before .if5 .left) (c .before .if6 .taken))
+    (c .fix-pcmpestrm .ensures)
 
 returns-14 : tie.Need-returns-14
 unfolding ruleOf
-returns-14 c = let x = c .before .before .before .before .before .before .before .before .before .args .x in ruled x (rule-span loop (x .opcode) 21 3 (inr refl, (inr refl, (inr refl, tt))) (c .before .before .if6 .left) (c .before .if7 .taken)) (c .fix-loop .ensures)
+returns-14 c =
+    let m = c .before .before .before .before .before .before .before .before in
+    let x = m .before .args .x in
+    ruled x
+    (rule-span loop (x .opcode) 21 3 (inr refl, (inr refl, (inr refl, tt))) (c .before .before .if6 .left) (c .before .if7 .taken))
+    (c .fix-loop .ensures)
 
 returns-15 : tie.Need-returns-15
-returns-15 c = let x = c .before .before .before .args .x in unruled x (x .digest) (x .opcode) (⊎-elim (λ w. inl (w .taken)) (λ w. inr (w .6 .left)) (c .before .if1 .came))
+returns-15 c =
+    let x = c .before .before .before .args .x in
+    unruled x (x .digest) (x .opcode)
+    (⊎-elim (λ w. inl (w .taken)) (λ w. inr (w .6 .left)) (c .before .if1 .came))
 
 pub fix-up-spec : {M : Type 1} → statement M
 fix-up-spec =

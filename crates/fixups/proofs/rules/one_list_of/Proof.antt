@@ -1,9 +1,7 @@
+-- `one_list_of` meets its contract: each list under its test. Assumes nothing.
 use borrow.Author.Needs.{needs}
 use Rattle.fixups.proofs.rules.one_list_of.Statement.{statement}
 use Rattle.fixups.proofs.rules.one_list_of.Tie as tie
-use Rattle.fixups.proofs.rules.one_list_of.Reads as reads
-use Rattle.fixups.proofs.rules.one_list_of.Lts as lts
-use Rattle.fixups.proofs.rules.with_list.Reads as with-list-reads
 
 with-list-requires : tie.Need-with-list-requires
 with-list-requires c κs = search needs

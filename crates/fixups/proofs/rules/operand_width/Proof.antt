@@ -1,11 +1,9 @@
+-- `operand_width` meets its contract: the width of `regs[1]` under its test, and `mem_size` otherwise. Assumes nothing.
+use borrow.Author.Needs.{needs}
 use borrow.Author.Tests.{eq-eqb, ne-eqb}
 use Rattle.definition.specs.Behaviors.{operandWidth}
-use borrow.Author.Needs.{needs}
 use Rattle.fixups.proofs.rules.operand_width.Statement.{statement}
 use Rattle.fixups.proofs.rules.operand_width.Tie as tie
-use Rattle.fixups.proofs.rules.operand_width.Reads as reads
-use Rattle.fixups.proofs.rules.operand_width.Lts as lts
-use Rattle.registers.proofs.RegSpec.width.Reads as width-reads
 
 element-copy-out-if1 : tie.Need-element-copy-out-if1
 element-copy-out-if1 c = search needs

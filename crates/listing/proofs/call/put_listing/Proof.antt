@@ -1,72 +1,75 @@
+use Rattle.listing.proofs.Loops.{begins, one-more, no-more}
+use Rattle.listing.proofs.Walking.{at-first}
+use Rattle.listing.specs.Cursors.{itemsFrom, itemsBy}
+use Rattle.definition.specs.Listings.{itemsOf, itemBytes}
+use Rattle.laws.proofs.Lending.{Going, next, inside, fits, ends, keeps}
+use lib.ListN.{length}
+use mathlib.Core.List.{[], _∷_}
+use mathlib.Core.Path.{_≡_, ap, _∙_}
+use native.Mathlib.Omega.{arith}
+use borrow.Author.Needs.{needs}
 use Rattle.listing.proofs.call.put_listing.Statement.{statement}
 use Rattle.listing.proofs.call.put_listing.Tie as tie
-use Rattle.listing.proofs.call.put_listing.Reads as reads
-use Rattle.listing.proofs.call.put_listing.Lts as lts
-use Rattle.listing.proofs.AccessIter.new.Reads as new-reads
-use Rattle.listing.proofs.AccessIter.next.Reads as next-reads
-use Rattle.listing.proofs.items.put_item.Reads as put-item-reads
 
 abbrev Inv-loop : tie.InvT-loop
-Inv-loop out₀ x n₀ c₀ out n c = ?
+Inv-loop out₀ x n₀ c₀ out n c = Going itemBytes (itemsOf x) (itemsFrom x c ∷ []) out₀ out n
 
 abbrev μ-loop : tie.MeasureT-loop
-μ-loop out₀ x n₀ c₀ out n c = ?
+μ-loop out₀ x n₀ c₀ out n c = length (itemsFrom x c)
 
--- src/call.rt:19:9
 new-requires : tie.Need-new-requires Inv-loop μ-loop
-new-requires c κs = ?
+new-requires c κs = tt
 
--- src/call.rt:20:5
 loop-holds : tie.Need-loop-holds Inv-loop μ-loop
-loop-holds c = ?
+loop-holds c = begins (ap (itemsFrom (c .before .before .args .x)) (c .new .ensures) ∙ at-first (c .before .before .args .x)) (c .before .before .pre) (c .before .before .good .0 .0)
 
--- src/call.rt:21:13
 next-requires : tie.Need-next-requires Inv-loop μ-loop
-next-requires c κs = ?
+next-requires c κs = tt
 
--- src/call.rt:22:27
 enum-known-r : tie.Need-enum-known-r Inv-loop μ-loop
-enum-known-r c = ?
+enum-known-r c = search needs
 
--- src/call.rt:23:13
 enum-told : tie.Need-enum-told Inv-loop μ-loop
-enum-told c = ?
+enum-told c = search needs
 
--- src/call.rt:23:13
 same-length : tie.Need-same-length Inv-loop μ-loop
-same-length c = ?
+same-length c = keeps (c .before .before .before .loop .inv)
 
--- src/call.rt:23:13
 returns : tie.Need-returns Inv-loop μ-loop
-returns c = ?
+returns c = no-more (c .before .before .next .ensures .left ∙ ap (itemsBy (c .before .before .before .before .before .before .args .x)) (c .enum-told .given .1)) (c .before .before .before .loop .inv)
 
--- src/call.rt:25:26
+-- an item that is left, and what is written when it comes
+here :
+    (c : tie.After-known-told Inv-loop μ-loop)
+    → itemsFrom (c .before .before .before .before .before .before .before .args .x) (c .before .before .before .before .loop .c)
+    ≡ c .before .r .given .0 .0 ∷ itemsFrom (c .before .before .before .before .before .before .before .args .x) (c .before .r .given .0 .1 .0)
+here c = c .before .before .before .next .ensures .left ∙ ap (itemsBy (c .before .before .before .before .before .before .before .args .x)) (c .before .r .given .1)
+
+going :
+    (c : tie.After-known-told Inv-loop μ-loop) → let s = c .before .before .before .before .before .before .before .args in let l = c .before .before .before .before .loop in
+    Going itemBytes (itemsOf (s .x)) ((c .before .r .given .0 .0 ∷ []) ∷ itemsFrom (s .x) (c .before .r .given .0 .1 .0) ∷ []) (s .out .now) (l .out) (l .n)
+going c = one-more (c .before .r .given .0 .0) (itemsFrom (c .before .before .before .before .before .before .before .args .x) (c .before .r .given .0 .1 .0)) (here c) (c .before .before .before .before .loop .inv)
+
 sub-put-item : tie.Need-sub-put-item Inv-loop μ-loop
-sub-put-item c = ?
+sub-put-item c = inside (going c)
 
--- src/call.rt:25:26
 part-put-item-start : tie.Need-part-put-item-start Inv-loop μ-loop
-part-put-item-start c = ?
+part-put-item-start c = inside (going c)
 
--- src/call.rt:25:26
 part-put-item-end : tie.Need-part-put-item-end Inv-loop μ-loop
-part-put-item-end c = ?
+part-put-item-end c = search needs
 
--- src/call.rt:25:17
 put-item-requires : tie.Need-put-item-requires Inv-loop μ-loop
-put-item-requires c κs = ?
+put-item-requires c κs = fits (going (c .before))
 
--- src/call.rt:25:13
 add-n : tie.Need-add-n Inv-loop μ-loop
-add-n c = ?
+add-n c = ends (going (c .before .before .before .before)) (c .before .before .put-item .ensures)
 
--- src/call.rt:20:5
 loop-less : tie.Need-loop-less Inv-loop μ-loop
-loop-less c = ?
+loop-less c = omega (arith, ap length (here (c .before .before .before .before)))
 
--- src/call.rt:20:5
 loop-again : tie.Need-loop-again Inv-loop μ-loop
-loop-again c = ?
+loop-again c = next (going (c .before .before .before .before)) (c .before .before .put-item .ensures)
 
 pub put-listing-spec : {M : Type 1} → statement M
 put-listing-spec =

@@ -4,15 +4,15 @@ use borrow.Author.Needs.{needs}
 use Rattle.listing.proofs.cursor.explicit_item.Statement.{statement}
 use Rattle.listing.proofs.cursor.explicit_item.Tie as tie
 
-array-read-t8 : tie.Need-array-read-t8
-array-read-t8 c = search needs
+spec-requires : tie.Need-spec-requires
+spec-requires c κs = search needs
 
 operand-access-requires : tie.Need-operand-access-requires
 operand-access-requires c κs = search needs
 
 returns : tie.Need-returns
 unfolding explicitAt
-returns c = rw (access-of (c .operand-access .result), c .operand-access .ensures)
+returns c = rw (access-of (c .operand-access .result), c .operand-access .ensures, c .before .spec .ensures)
 
 pub explicit-item-spec : {M : Type 1} → statement M
-explicit-item-spec = tie.close (tie.spec array-read-t8 operand-access-requires returns)
+explicit-item-spec = tie.close (tie.spec spec-requires operand-access-requires returns)

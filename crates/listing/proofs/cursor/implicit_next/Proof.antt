@@ -1,6 +1,5 @@
 use Rattle.definition.specs.Listings.{entryItems}
 use Rattle.implicit.proofs.Laws.{below-four}
-use native.Mathlib.Omega.{arith}
 use mathlib.Core.Path.{refl, sym, _∙_}
 use Rattle.listing.proofs.Walking.{entry-found, entry-over}
 use borrow.Author.Needs.{needs}
@@ -13,26 +12,18 @@ implicit-entry-requires c κs = search needs
 enum-known-entry : tie.Need-enum-known-entry
 enum-known-entry c = search needs
 
-access-of-requires : tie.Need-access-of-requires
-access-of-requires c κs = search needs
-
-add-t12 : tie.Need-add-t12
-add-t12 c =
-    let s = c .before .before .before .before .before .before .args in
-    let h = below-four (s .x .digest .extra) (s .i) (sym (c .before .before .before .before .implicit-entry .ensures) ∙ c .before .before .entry .given .1) refl in
-    record { fits = omega arith }
+implicit-found-requires : tie.Need-implicit-found-requires
+implicit-found-requires c κs =
+    let s = c .before .before .before .before .before .args in
+    below-four (s .x .digest .extra) (s .i) (sym (c .before .before .before .implicit-entry .ensures) ∙ c .before .entry .given .1) refl
 
 enum-known-entry-2 : tie.Need-enum-known-entry-2
 enum-known-entry-2 c = search needs
 
-access-of-requires-2 : tie.Need-access-of-requires-2
-access-of-requires-2 c κs = search needs
-
-add-t17 : tie.Need-add-t17
-add-t17 c =
-    let s = c .before .before .before .before .before .before .args in
-    let h = below-four (s .x .digest .extra) (s .i) (sym (c .before .before .before .before .implicit-entry .ensures) ∙ c .before .before .entry2 .given .1) refl in
-    record { fits = omega arith }
+implicit-found-requires-2 : tie.Need-implicit-found-requires-2
+implicit-found-requires-2 c κs =
+    let s = c .before .before .before .before .before .args in
+    below-four (s .x .digest .extra) (s .i) (sym (c .before .before .before .implicit-entry .ensures) ∙ c .before .entry2 .given .1) refl
 
 enum-told : tie.Need-enum-told
 enum-told c = search needs
@@ -44,13 +35,13 @@ returns : tie.Need-returns
 unfolding entryItems
 returns c =
     let s = c .before .before .before .before .before .before .args in
-    rw (c .access-of .ensures) (sym (entry-found (s .x) (s .i) (sym (c .before .before .before .before .implicit-entry .ensures) ∙ c .before .before .entry .given .1) refl))
+    c .implicit-found .ensures ∙ sym (entry-found (s .x) (s .i) (sym (c .before .before .before .before .implicit-entry .ensures) ∙ c .before .before .entry .given .1) refl)
 
 returns-2 : tie.Need-returns-2
 unfolding entryItems
 returns-2 c =
     let s = c .before .before .before .before .before .before .args in
-    rw (c .access-of2 .ensures) (sym (entry-found (s .x) (s .i) (sym (c .before .before .before .before .implicit-entry .ensures) ∙ c .before .before .entry2 .given .1) refl))
+    c .implicit-found2 .ensures ∙ sym (entry-found (s .x) (s .i) (sym (c .before .before .before .before .implicit-entry .ensures) ∙ c .before .before .entry2 .given .1) refl)
 
 returns-3 : tie.Need-returns-3
 returns-3 c =
@@ -63,11 +54,9 @@ implicit-next-spec =
     (tie.spec
     implicit-entry-requires
     enum-known-entry
-    access-of-requires
-    add-t12
+    implicit-found-requires
     enum-known-entry-2
-    access-of-requires-2
-    add-t17
+    implicit-found-requires-2
     enum-told
     explicit-next-requires
     returns

@@ -1,5 +1,4 @@
-use Rattle.definition.specs.Listings.{itemBytes, operandBytes}
-use Rattle.access.specs.Accesses.{accessNumber}
+use Rattle.definition.specs.Listings.{operandBytes}
 use native.Mathlib.Omega.{arith}
 use lib.ListN.{length-set}
 use lib.Seq.{sets-eq}
@@ -8,8 +7,6 @@ use mathlib.Core.Path.{refl}
 use borrow.Author.Needs.{needs}
 use Rattle.listing.proofs.items.put_base_index.Statement.{statement}
 use Rattle.listing.proofs.items.put_base_index.Tie as tie
-use Rattle.listing.proofs.items.put_base_index.Reads as reads
-use Rattle.listing.proofs.items.put_base_index.Lts as lts
 
 slice-write-out : tie.Need-slice-write-out
 slice-write-out c = search needs
@@ -33,7 +30,7 @@ same-length : tie.Need-same-length
 same-length c = search needs
 
 returns : tie.Need-returns
-unfolding itemBytes operandBytes
+unfolding operandBytes
 returns c = (refl, sets-eq (0x45 ∷ c .args .y .bank ∷ c .args .y .number ∷ c .args .z .bank ∷ c .args .z .number ∷ c .args .k ∷ []) (c .args .out .now) 0 (c .pre))
 
 pub put-base-index-spec : {M : Type 1} → statement M

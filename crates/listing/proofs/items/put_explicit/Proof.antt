@@ -1,4 +1,4 @@
-use Rattle.definition.specs.Listings.{itemBytes, operandBytes}
+use Rattle.definition.specs.Listings.{itemBytes}
 use Rattle.access.specs.Accesses.{accessNumber}
 use native.Mathlib.Omega.{arith}
 use lib.ListN.{length-set}
@@ -8,9 +8,6 @@ use mathlib.Core.Path.{refl}
 use borrow.Author.Needs.{needs}
 use Rattle.listing.proofs.items.put_explicit.Statement.{statement}
 use Rattle.listing.proofs.items.put_explicit.Tie as tie
-use Rattle.listing.proofs.items.put_explicit.Reads as reads
-use Rattle.listing.proofs.items.put_explicit.Lts as lts
-use Rattle.access.proofs.Access.to_bits.Reads as to-bits-reads
 
 slice-write-out : tie.Need-slice-write-out
 slice-write-out c = search needs
@@ -31,7 +28,7 @@ same-length : tie.Need-same-length
 same-length c = search needs
 
 returns : tie.Need-returns
-unfolding itemBytes operandBytes
+unfolding itemBytes
 returns c = rw (c .to-bits .ensures) (refl, sets-eq (0x46 ∷ c .before .before .args .i ∷ c .before .before .args .s ∷ accessNumber (c .before .before .args .a) ∷ []) (c .before .before .args .out .now) 0 (c .before .before .pre))
 
 pub put-explicit-spec : {M : Type 1} → statement M

@@ -1,16 +1,11 @@
-use Rattle.definition.specs.Listings.{itemBytes, operandBytes}
+use Rattle.definition.specs.Listings.{itemBytes}
 use Rattle.access.specs.Accesses.{accessNumber}
-use native.Mathlib.Omega.{arith}
-use lib.ListN.{length-set}
 use lib.Seq.{sets-eq}
 use mathlib.Core.List.{_∷_, []}
 use mathlib.Core.Path.{refl}
 use borrow.Author.Needs.{needs}
 use Rattle.listing.proofs.items.put_flags.Statement.{statement}
 use Rattle.listing.proofs.items.put_flags.Tie as tie
-use Rattle.listing.proofs.items.put_flags.Reads as reads
-use Rattle.listing.proofs.items.put_flags.Lts as lts
-use Rattle.access.proofs.Access.to_bits.Reads as to-bits-reads
 
 slice-write-out : tie.Need-slice-write-out
 slice-write-out c = search needs
@@ -25,7 +20,7 @@ same-length : tie.Need-same-length
 same-length c = search needs
 
 returns : tie.Need-returns
-unfolding itemBytes operandBytes
+unfolding itemBytes
 returns c = rw (c .to-bits .ensures) (refl, sets-eq (0x41 ∷ accessNumber (c .before .before .args .a) ∷ []) (c .before .before .args .out .now) 0 (c .before .before .pre))
 
 pub put-flags-spec : {M : Type 1} → statement M

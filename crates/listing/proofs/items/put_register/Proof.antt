@@ -1,5 +1,3 @@
-use Rattle.definition.specs.Listings.{itemBytes, operandBytes}
-use Rattle.access.specs.Accesses.{accessNumber}
 use native.Mathlib.Omega.{arith}
 use lib.ListN.{length-set}
 use lib.Seq.{sets-eq}
@@ -8,8 +6,6 @@ use mathlib.Core.Path.{refl}
 use borrow.Author.Needs.{needs}
 use Rattle.listing.proofs.items.put_register.Statement.{statement}
 use Rattle.listing.proofs.items.put_register.Tie as tie
-use Rattle.listing.proofs.items.put_register.Reads as reads
-use Rattle.listing.proofs.items.put_register.Lts as lts
 
 slice-write-out : tie.Need-slice-write-out
 slice-write-out c = search needs
@@ -24,7 +20,6 @@ same-length : tie.Need-same-length
 same-length c = search needs
 
 returns : tie.Need-returns
-unfolding itemBytes operandBytes
 returns c = (refl, sets-eq (c .args .kind ∷ c .args .y .bank ∷ c .args .y .number ∷ []) (c .args .out .now) 0 (c .pre))
 
 pub put-register-spec : {M : Type 1} → statement M

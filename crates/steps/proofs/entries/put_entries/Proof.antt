@@ -3,7 +3,7 @@ use native.Mathlib.Omega.{arith}
 use Prim.Native.Nat.{_+_, _-_}
 use mathlib.Core.Path.{sym, _∙_}
 use denote.Ref.{now}
-use mathlib.Core.List.{[], _∷_, map}
+use mathlib.Core.List.{_∷_, map}
 use lib.ListN.{drop, drop-of-length-le}
 use Rattle.laws.specs.Lists.{each}
 use Rattle.laws.proofs.Lending.{Going, start, next, inside, fits, ends, whole, keeps}
@@ -23,13 +23,20 @@ Inv-loop log₀ f x list n₀ i₀ log n i =
 abbrev μ-loop : tie.MeasureT-loop
 μ-loop log₀ f x list n₀ i₀ log n i = 4 - i
 
+-- the next entry, and those after it
 going :
     (c : tie.At-match-keys2 Inv-loop μ-loop) → let l = c .before .before .before .loop in let s = c .before .before .before .before .before .args in let es = implicitOf (s .x .digest .extra) in
     Going (stepBytes (s .f)) (each (entrySteps (s .x)) es) (entrySteps (s .x) (c .before .implicit-entry .result) ∷ map (entrySteps (s .x)) (drop (l .i + 1) es)) (now (s .log)) (l .log) (l .n)
-going c = let s = c .before .before .before .before .before in rw (step (s .args .x .digest .extra) (c .before .before .before .loop .i) (sym (c .before .implicit-entry .ensures)) (no-end (c .before .implicit-entry .result) (c .match .keys2))) at (c .before .before .before .loop .inv)
+going c =
+    let e = step (c .before .before .before .before .before .args .x .digest .extra) (c .before .before .before .loop .i) (sym (c .before .implicit-entry .ensures)) (no-end (c .before .implicit-entry .result) (c .match .keys2)) in
+    rw e at (c .before .before .before .loop .inv)
 
 loop-holds : tie.Need-loop-holds Inv-loop μ-loop
-loop-holds c = let s = c .before in rw (each-flat (entrySteps (s .args .x)) (implicitOf (s .args .x .digest .extra))) at (start {enc = stepBytes (s .args .f)} (map (entrySteps (s .args .x)) (implicitOf (s .args .x .digest .extra))) (now (s .args .log)) (rw (each-flat (entrySteps (s .args .x)) (implicitOf (s .args .x .digest .extra))) (s .pre)) (s .good .0 .0))
+loop-holds c =
+    let s = c .before in
+    let es = implicitOf (s .args .x .digest .extra) in
+    let e = each-flat (entrySteps (s .args .x)) es in
+    rw e at (start {enc = stepBytes (s .args .f)} (map (entrySteps (s .args .x)) es) (now (s .args .log)) (rw e (s .pre)) (s .good .0 .0))
 
 implicit-entry-requires : tie.Need-implicit-entry-requires Inv-loop μ-loop
 implicit-entry-requires c κs = search needs
@@ -41,7 +48,9 @@ same-length : tie.Need-same-length Inv-loop μ-loop
 same-length c = keeps (c .before .before .before .before .loop .inv)
 
 returns : tie.Need-returns Inv-loop μ-loop
-returns c = let s = c .before .before .before .before .before .before in whole (rw (stop (s .args .x .digest .extra) (c .before .before .before .before .loop .i) (sym (c .before .before .implicit-entry .ensures) ∙ c .enum-told .given .1)) at (c .before .before .before .before .loop .inv))
+returns c =
+    let e = stop (c .before .before .before .before .before .before .args .x .digest .extra) (c .before .before .before .before .loop .i) (sym (c .before .before .implicit-entry .ensures) ∙ c .enum-told .given .1) in
+    whole (rw e at (c .before .before .before .before .loop .inv))
 
 sub-put-entry : tie.Need-sub-put-entry Inv-loop μ-loop
 sub-put-entry c = inside (going c)
@@ -71,7 +80,10 @@ same-length-2 : tie.Need-same-length-2 Inv-loop μ-loop
 same-length-2 c = keeps (c .before .loop .inv)
 
 returns-2 : tie.Need-returns-2 Inv-loop μ-loop
-returns-2 c = let s = c .before .before .before in whole (rw (drop-of-length-le (implicitOf (s .args .x .digest .extra)) {i = c .before .loop .i} (omega (arith, c .loop-test .left, at-most-four (s .args .x .digest .extra)))) at (c .before .loop .inv))
+returns-2 c =
+    let l = c .before .before .before .args .x .digest .extra in
+    let e = drop-of-length-le (implicitOf l) {i = c .before .loop .i} (omega (arith, c .loop-test .left, at-most-four l)) in
+    whole (rw e at (c .before .loop .inv))
 
 pub put-entries-spec : {M : Type 1} → statement M
 put-entries-spec =

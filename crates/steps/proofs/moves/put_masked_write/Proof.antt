@@ -1,29 +1,58 @@
 use borrow.Author.Needs.{needs}
-use Prim.Native.Nat.{ℕ, _+_}
+use Prim.Native.Nat.{_+_, _≤_}
 use mathlib.Core.List.{List, [], _∷_}
 use denote.Ref.{now}
+use lib.ListN.{length}
 use Rattle.laws.specs.Lists.{flat}
+use Rattle.laws.specs.Lending.{size}
 use Rattle.laws.proofs.Lending.{Going, first, next, inside, fits, fits-first, ends, whole, keeps, back}
 use Rattle.implicit.specs.declared.Way.the-variants.{Load, Store}
 use Rattle.definition.specs.Addresses.{termRegisters}
 use Rattle.definition.specs.Steps.{maskRegisters}
 use Rattle.definition.specs.Logs.{eventBytes}
+use Rattle.definition.specs.declared.Event.{Event}
 use Rattle.steps.specs.Moves.{moved, maskedWrite}
 use Rattle.steps.proofs.moves.put_masked_write.Statement.{statement}
 use Rattle.steps.proofs.moves.put_masked_write.Tie as tie
 
+abbrev mask : tie.Start → List Event
+mask s = moved Load (maskRegisters (s .args .m))
+
+abbrev register : tie.Start → List Event
+register s = moved Store (s .args .y ∷ [])
+
+abbrev all : tie.Start → List Event
+all s = flat (mask s ∷ register s ∷ [])
+
+room : (s : tie.Start) → size eventBytes (all s) ≤ length (now (s .args .log))
+unfolding termRegisters maskedWrite
+room s = s .pre
+
 one :
     (c : tie.After-put-term) → let s = c .before .before .before .before in
-    Going (eventBytes) (maskedWrite (s .args .y) (s .args .m)) ((moved Store (s .args .y ∷ [])) ∷ []) (now (s .args .log)) (c .put-term .last .0) (c .put-term .result)
+    let p = c .put-term in
+    Going eventBytes (all s) (register s ∷ []) (now (s .args .log)) (p .last .0) (p .result)
 unfolding termRegisters maskedWrite
-one c = let s = c .before .before .before .before in first ((moved Store (s .args .y ∷ [])) ∷ []) (rw (c .before .before .mask-term .ensures) at (c .put-term .ensures)) (s .pre) (s .good .0 .0)
+one c =
+    let s = c .before .before .before .before in
+    first (register s ∷ []) (rw (c .before .before .mask-term .ensures) at (c .put-term .ensures)) (room s) (s .good .0 .0)
+
+two :
+    (c : tie.After-put-term2) → let s = c .before .before .before .before .before .before .before .before in
+    let p = c .before .before .before .before .put-term in
+    let q = c .put-term2 in
+    Going eventBytes (all s) [] (now (s .args .log)) (back (p .last .0) (p .result) (q .last .0)) (p .result + q .result)
+unfolding termRegisters maskedWrite
+two c = next (one (c .before .before .before .before)) (c .put-term2 .ensures)
 
 mask-term-requires : tie.Need-mask-term-requires
 mask-term-requires c κs = search needs
 
 put-term-requires : tie.Need-put-term-requires
 unfolding termRegisters maskedWrite
-put-term-requires c κs = let s = c .before .before .before in rw (c .before .mask-term .ensures) (fits-first (eventBytes) (moved Load (maskRegisters (s .args .m))) ((moved Store (s .args .y ∷ [])) ∷ []) (s .pre))
+put-term-requires c κs =
+    let s = c .before .before .before in
+    rw (c .before .mask-term .ensures) (fits-first eventBytes (mask s) (register s ∷ []) (room s))
 
 sub-put-term : tie.Need-sub-put-term
 sub-put-term c = inside (one (c .before .before))
@@ -36,19 +65,18 @@ part-put-term-end c = search needs
 
 put-term-requires-2 : tie.Need-put-term-requires-2
 unfolding termRegisters maskedWrite
-put-term-requires-2 c κs = let s = c .before .before .before .before .before .before .before in fits (one (c .before .before .before))
+put-term-requires-2 c κs = fits (one (c .before .before .before))
 
 add-result : tie.Need-add-result
 unfolding termRegisters maskedWrite
-add-result c = let s = c .before .before .before .before .before .before .before .before .before .before in ends (one (c .before .before .before .before .before .before)) (c .before .before .put-term2 .ensures)
+add-result c = ends (one (c .before .before .before .before .before .before)) (c .before .before .put-term2 .ensures)
 
 same-length : tie.Need-same-length
-unfolding termRegisters maskedWrite
-same-length c = let s = c .before .before .before .before .before .before .before .before .before .before in keeps (next (one (c .before .before .before .before .before .before)) (c .before .before .put-term2 .ensures))
+same-length c = keeps (two (c .before .before))
 
 returns : tie.Need-returns
 unfolding termRegisters maskedWrite
-returns c = let s = c .before .before .before .before .before .before .before .before .before .before in whole (next (one (c .before .before .before .before .before .before)) (c .before .before .put-term2 .ensures))
+returns c = whole (two (c .before .before))
 
 pub put-masked-write-spec : {M : Type 1} → statement M
 put-masked-write-spec =

@@ -1,5 +1,5 @@
 use borrow.Author.Needs.{needs}
-use Rattle.steps.specs.Moves.{operandWrite}
+use Rattle.steps.specs.Moves.{registerWrite}
 use Rattle.steps.proofs.moves.put_write.Statement.{statement}
 use Rattle.steps.proofs.moves.put_write.Tie as tie
 
@@ -7,26 +7,28 @@ apply-x86-zext-requires : tie.Need-apply-x86-zext-requires
 apply-x86-zext-requires c κs = search needs
 
 put-masked-write-requires : tie.Need-put-masked-write-requires
-unfolding operandWrite
+unfolding registerWrite
 put-masked-write-requires c κs = rw (c .before .if1 .taken) at (c .before .before .before .before .pre)
 
 put-move-requires : tie.Need-put-move-requires
-unfolding operandWrite
-put-move-requires c κs = rw (c .before .before .apply-x86-zext .ensures) (rw (c .before .if1 .left) at (c .before .before .before .before .pre))
+unfolding registerWrite
+put-move-requires c κs =
+    rw (c .before .before .apply-x86-zext .ensures) (rw (c .before .if1 .left) at (c .before .before .before .before .pre))
 
 same-length : tie.Need-same-length
 same-length c = search needs
 
 returns : tie.Need-returns
-unfolding operandWrite
+unfolding registerWrite
 returns c = rw (c .before .before .before .before .if1 .taken) (c .before .before .put-masked-write .ensures)
 
 same-length-2 : tie.Need-same-length-2
 same-length-2 c = search needs
 
 returns-2 : tie.Need-returns-2
-unfolding operandWrite
-returns-2 c = rw (c .before .before .before .before .if1 .left, ← c .before .before .before .before .before .apply-x86-zext .ensures) (c .before .before .put-move .ensures)
+unfolding registerWrite
+returns-2 c =
+    rw (c .before .before .before .before .if1 .left, ← c .before .before .before .before .before .apply-x86-zext .ensures) (c .before .before .put-move .ensures)
 
 pub put-write-spec : {M : Type 1} → statement M
 put-write-spec =

@@ -1,15 +1,27 @@
 use borrow.Author.Needs.{needs}
-use mathlib.Core.List.{_++_, map}
+use mathlib.Core.Path.{_≡_}
+use mathlib.Core.List.{List, _++_, map}
 use Rattle.definition.specs.Addresses.{registersOf}
-use Rattle.definition.specs.Steps.{reads, maskSteps}
+use Rattle.definition.specs.Steps.{Step, reads, maskSteps}
+use Rattle.definition.specs.Logs.{eventsOf}
+use Rattle.steps.specs.Moves.{touchReads}
 use Rattle.steps.specs.Touches.{memorySteps}
-use Rattle.steps.proofs.Events.{as-steps, as-events, events-stopped}
+use Rattle.steps.proofs.Events.{as-steps, as-events}
+use Rattle.steps.proofs.Pieces.{events-stopped}
 use Rattle.steps.proofs.touches.put_memory.Statement.{statement}
 use Rattle.steps.proofs.touches.put_memory.Tie as tie
 
+abbrev stopped : tie.Start → List Step
+stopped s = map reads (registersOf (s .args .a)) ++ maskSteps (s .args .m)
+
+stopped-reads : (s : tie.Start) → eventsOf (s .args .f) (stopped s) ≡ touchReads (s .args .a) (s .args .m)
+stopped-reads s = events-stopped (s .args .f) (s .args .a) (s .args .m)
+
 put-address-requires : tie.Need-put-address-requires
 unfolding memorySteps
-put-address-requires c κs = let s = c .before .before .before in as-events (s .args .f) (map reads (registersOf (s .args .a)) ++ maskSteps (s .args .m)) (events-stopped (s .args .f) (s .args .a) (s .args .m)) (rw (c .before .if1 .taken) at (s .pre))
+put-address-requires c κs =
+    let s = c .before .before .before in
+    as-events (s .args .f) (stopped s) (stopped-reads s) (rw (c .before .if1 .taken) at (s .pre))
 
 put-touch-requires : tie.Need-put-touch-requires
 unfolding memorySteps
@@ -20,7 +32,9 @@ same-length c = search needs
 
 returns : tie.Need-returns
 unfolding memorySteps
-returns c = let s = c .before .before .before .before .before .before in rw (c .before .before .before .before .if1 .taken) (as-steps (s .args .f) (map reads (registersOf (s .args .a)) ++ maskSteps (s .args .m)) (events-stopped (s .args .f) (s .args .a) (s .args .m)) (c .before .before .put-address .ensures))
+returns c =
+    let s = c .before .before .before .before .before .before in
+    rw (c .before .before .before .before .if1 .taken) (as-steps (s .args .f) (stopped s) (stopped-reads s) (c .before .before .put-address .ensures))
 
 same-length-2 : tie.Need-same-length-2
 same-length-2 c = search needs

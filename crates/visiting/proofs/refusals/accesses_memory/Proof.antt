@@ -41,7 +41,8 @@ is-memory-requires-4 : tie.Need-is-memory-requires-4
 is-memory-requires-4 c κs = search needs
 
 returns : tie.Need-returns
-returns c = cc (accessed-is isMemory (c .before .before .before .before .before .before .before .before .before .before .before .before .args .t1))
+returns c =
+    rw (c .before .before .before .before .before .before .before .before .before .before .before .is-accessed .ensures, c .before .before .before .before .before .before .before .before .is-accessed2 .ensures, c .before .before .before .before .before .is-accessed3 .ensures, c .before .before .is-accessed4 .ensures, c .before .before .before .before .before .before .before .before .before .is-memory .ensures, c .before .before .before .before .before .before .is-memory2 .ensures, c .before .before .before .is-memory3 .ensures, c .is-memory4 .ensures, accessed-is isMemory (c .before .before .before .before .before .before .before .before .before .before .before .before .args .t1))
 
 pub accesses-memory-spec : {M : Type 1} → statement M
 accesses-memory-spec =

@@ -1,0 +1,78 @@
+-- The outcomes of a listing, return by return. Assumes nothing.
+use Prim.Native.Nat.{ℕ, _-_, _≤_, _<_}
+use native.Mathlib.Omega.{arith}
+use mathlib.Core.Path.{_≡_, sym, ap, _∙_}
+use mathlib.Core.Bool.{true, false}
+use mathlib.Core.List.{List, [], _∷_}
+use lib.Dec.{leb}
+use lib.ListN.{length}
+use borrow.Author.Tests.{leb-true, leb-false}
+use Rattle.laws.specs.Tests.{firstOf}
+use Rattle.laws.specs.Lending.{size, Logged}
+use Rattle.laws.proofs.Choice.{first-here, first-later}
+use Rattle.laws.proofs.Lending.{part, back}
+use Rattle.record.specs.Records.{recordOf, recordRefusal, recordAnswer}
+use Rattle.record.specs.declared.RecordAnswer.{RecordAnswer}
+use Rattle.record.proofs.Laws.{answer-number, answer-read}
+use Rattle.record.specs.declared.Record.{Record}
+use Rattle.definition.specs.Behaviors.{fixedUp, complex}
+use Rattle.definition.specs.Refusals.{noRoom}
+use Rattle.definition.specs.Visits.{fixedRecord, outcome}
+use Rattle.definition.specs.Listings.{itemsOf, itemBytes, listingOf, listingRefusal, listingCall}
+use Rattle.definition.specs.declared.Answer.the-variants.{Done, Refused, Complex}
+use Rattle.definition.proofs.Outcomes.{by-record, past-record, never-complex, refused, refused-complex, past-end, too-short, enough, lent-room, written}
+use Rattle.listing.specs.Calls.{listedFrom}
+
+-- of a record that passed: past the end, no room, written
+module _ (x : Record) (buffer : List ℕ) (start : ℕ) where
+  no-room : firstOf ((noRoom (length (listingOf x)) buffer start, 7) ∷ []) ≡ 7 → (Refused 7, buffer) ≡ listedFrom x buffer start
+  unfolding listedFrom
+  no-room e = sym (refused (x .opcode) (listingOf x) buffer start e (λ z. omega arith) (λ z. omega arith))
+
+  pub starts-past : length buffer < start → (Refused 7, buffer) ≡ listedFrom x buffer start
+  starts-past h = no-room (past-end (length (listingOf x)) buffer start h)
+
+  pub too-long : start ≤ length buffer → leb (length (listingOf x)) (length buffer - start) ≡ false → (Refused 7, buffer) ≡ listedFrom x buffer start
+  too-long s h = no-room (too-short (length (listingOf x)) buffer start s (leb-false _ _ h))
+
+  pub listing-room : leb (length (listingOf x)) (length buffer - start) ≡ true → size itemBytes (itemsOf x) ≤ length (part buffer start)
+  unfolding size
+  listing-room h = lent-room buffer start (leb-true _ _ h)
+
+  pub fitting :
+      {ys : List ℕ} {n : ℕ} → start ≤ length buffer → leb (length (listingOf x)) (length buffer - start) ≡ true
+      → Logged itemBytes (itemsOf x) (part buffer start) ys n → (Done n, back buffer start ys) ≡ listedFrom x buffer start
+  unfolding listedFrom
+  fitting s h l = sym (written (x .opcode) buffer start (enough (length (listingOf x)) buffer start s (leb-true _ _ h)) l)
+
+-- of bytes: refused 1 or 2, refused 4, or as the record that they are
+module _ (b buffer : List ℕ) (start : ℕ) {r : RecordAnswer} (e : r ≡ recordAnswer b) where
+  number : r .number ≡ recordRefusal b
+  number = ap (λ (r : RecordAnswer). r .number) e ∙ answer-number b
+
+  fixed : {x : Record} → r .number ≡ 0 → x ≡ fixedUp (r .read) → x ≡ fixedRecord b
+  fixed z f = f ∙ ap fixedUp (ap (λ (r : RecordAnswer). r .read) e ∙ answer-read b (sym number ∙ z))
+
+  pub turned-down : (r .number ≡ 0 → ⊥) → (Refused (r .number), buffer) ≡ listingCall b buffer start
+  unfolding listingCall listingRefusal
+  turned-down ne =
+      sym
+      (refused (recordOf b .opcode) (listingOf (fixedRecord b)) buffer start
+      (by-record b _ (λ z. ne (number ∙ z)) ∙ sym number)
+      ne
+      (λ z. never-complex b (sym number ∙ z)))
+
+  pub complex-one : {x : Record} → r .number ≡ 0 → x ≡ fixedUp (r .read) → complex x ≡ true → (Complex (x .opcode), buffer) ≡ listingCall b buffer start
+  unfolding listingCall listingRefusal fixedUp
+  complex-one z f h =
+      rw (fixed z f)
+      (sym
+      (refused-complex (recordOf b .opcode) (listingOf (fixedRecord b)) buffer start
+      (past-record b _ (sym number ∙ z) ∙ first-here (complex (fixedRecord b)) 4 _ (rw (fixed z f) at h))))
+
+  pub by-room : {x : Record} → r .number ≡ 0 → x ≡ fixedUp (r .read) → complex x ≡ false → listedFrom x buffer start ≡ listingCall b buffer start
+  unfolding listingCall listingRefusal listedFrom fixedUp
+  by-room z f h =
+      rw (fixed z f)
+      (ap (λ (k : ℕ). outcome k (recordOf b .opcode) (listingOf (fixedRecord b)) buffer start)
+      (sym (past-record b _ (sym number ∙ z) ∙ first-later (complex (fixedRecord b)) 4 _ (rw (fixed z f) at h))))

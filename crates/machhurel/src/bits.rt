@@ -1,0 +1,47 @@
+// The parts of an answer, each at its bit.
+ghost use mathlib.Core.Path.{_≡_};
+ghost use Prim.Native.Nat.{_^_, _<_};
+ghost use Rattle.definition.specs.Visits.{countOf};
+ghost use Rattle.machhurel.specs.Answers.{answerBits, digestBits, privilegeBits, exceptionBits};
+use access::InfoAnswer;
+use definition::Answer;
+use definition::PrivilegeAnswer;
+use digest::DigestAnswer;
+
+pub fn answer_bits(a: Answer) -> u64
+    requires { ⌜ countOf a < 2 ^ 32 ⌝ }
+    ensures { λ r. ⌜ r ≡ answerBits a ⌝ }
+{
+    match a {
+        Answer::Done(n) => (n as u64) * 0x1_0000_0000,
+        Answer::Refused(number) => number as u64,
+        Answer::Complex(opcode) => 4 + (opcode as u64) * 0x100,
+    }
+}
+
+pub fn digest_bits(a: DigestAnswer) -> u64
+    ensures { λ r. ⌜ r ≡ digestBits a ⌝ }
+{
+    let number = a.number as u64;
+    let behavior = a.digest.behavior as u64;
+    let operands = a.digest.operands as u64;
+    let extra = a.digest.extra as u64;
+    number + behavior * 0x100 + operands * 0x1_0000 + extra * 0x1_0000_0000
+}
+
+pub fn privilege_bits(a: PrivilegeAnswer) -> u64
+    ensures { λ r. ⌜ r ≡ privilegeBits a ⌝ }
+{
+    let number = a.number as u64;
+    let level = a.level;
+    let bits = level.to_bits() as u64;
+    number + bits * 0x100
+}
+
+pub fn exception_bits(a: InfoAnswer) -> u64
+    ensures { λ r. ⌜ r ≡ exceptionBits a ⌝ }
+{
+    let number = a.number as u64;
+    let vectors = a.info.vectors as u64;
+    number + vectors * 0x1_0000_0000
+}

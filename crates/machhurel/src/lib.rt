@@ -1,0 +1,10 @@
+// What users call: every call takes bytes and answers one number, whose bits specs/Answers.antt names. No call requires anything.
+mod bits; // bits.rt: which bits of an answer hold what
+mod calls; // calls.rt: the calls, exported as C
+
+pub use calls::machhurel_digest;
+pub use calls::machhurel_event;
+pub use calls::machhurel_exceptions;
+pub use calls::machhurel_listing;
+pub use calls::machhurel_privilege;
+pub use calls::machhurel_visit;
