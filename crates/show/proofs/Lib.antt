@@ -1,3 +1,4 @@
 pub mod Cells
 pub mod Numbers
 pub mod Texts
+pub mod Walks

@@ -6,7 +6,9 @@ use crate::problem::say_unread;
 use crate::report::put_record;
 use libc::STDOUT_FILENO;
 use registers::RegisterFile;
+ghost use mathlib.Core.Path.{_≡_};
 ghost use Prim.Native.Nat.{_≤_};
+ghost use lib.ListN.{length};
 
 // A proved loop has to end, and nothing says that a file does: no trace has as many items as this.
 const MOST_ITEMS: u64 = 1099511627776;
@@ -32,7 +34,8 @@ pub fn show_items(fd: i32) {
 }
 
 // Shows the item at a place, and answers its length, or 0 where there is nothing more to show.
-fn show_item(fd: i32, at: u64, records: u64, file: &mut [u8; 141]) -> u64
+fn show_item(fd: i32, at: u64, records: u64, file: &mut [u8]) -> u64
+    requires { ⌜ length (now file) ≡ 141 ⌝ }
     ensures { λ r. ⌜ r ≤ 141 ⌝ }
 {
     let mut kind = [0u8; 1];
@@ -64,7 +67,7 @@ fn is_record(n: u64) -> u64
 }
 
 // A record of which the kind is read.
-fn show_record(fd: i32, at: u64, number: u64, file: &[u8; 141]) -> u64
+fn show_record(fd: i32, at: u64, number: u64, file: &[u8]) -> u64
     ensures { λ r. ⌜ r ≤ 141 ⌝ }
 {
     let mut b = [0u8; 40];
@@ -81,7 +84,7 @@ fn show_record(fd: i32, at: u64, number: u64, file: &[u8; 141]) -> u64
     }
 }
 
-fn print_record(number: u64, b: &[u8; 40], file: &[u8; 141]) -> bool {
+fn print_record(number: u64, b: &[u8], file: &[u8]) -> bool {
     let mut out = [0u8; 8192];
     let n = put_record(&mut out, number, b, file);
     let is_written = io::write_all(STDOUT_FILENO, &out[..n]);
@@ -92,7 +95,8 @@ fn print_record(number: u64, b: &[u8; 40], file: &[u8; 141]) -> bool {
 }
 
 // A register file of which the kind is read: it stands for the records after it.
-fn take_file(fd: i32, at: u64, file: &mut [u8; 141]) -> u64
+fn take_file(fd: i32, at: u64, file: &mut [u8]) -> u64
+    requires { ⌜ length (now file) ≡ 141 ⌝ }
     ensures { λ r. ⌜ r ≤ 141 ⌝ }
 {
     file[0] = 0x20;
