@@ -61,27 +61,47 @@ low-row = ascii "al   cl   dl   bl   spl  bpl  sil  dil  r8b  r9b  r10b r11b r12
 abbrev byte-row : List ℕ
 byte-row = ascii "al   cl   dl   bl   ah   ch   dh   bh   "
 
+pub quad-name : (k : ℕ) → named quads k ≡ letters (cell quad-row k) ∷ []
+unfolding ascii cells cell lettersAt
+quad-name = by-row quad-row quads 16 refl refl
+
+pub double-name : (k : ℕ) → named doubles k ≡ letters (cell double-row k) ∷ []
+unfolding ascii cells cell lettersAt
+double-name = by-row double-row doubles 16 refl refl
+
+pub word-name : (k : ℕ) → named words k ≡ letters (cell word-row k) ∷ []
+unfolding ascii cells cell lettersAt
+word-name = by-row word-row words 16 refl refl
+
+pub low-name : (k : ℕ) → named lows k ≡ letters (cell low-row k) ∷ []
+unfolding ascii cells cell lettersAt
+low-name = by-row low-row lows 16 refl refl
+
+pub byte-name : (k : ℕ) → named bytes k ≡ letters (cell byte-row k) ∷ []
+unfolding ascii cells cell lettersAt
+byte-name = by-row byte-row bytes 8 refl refl
+
 -- the name of a register of each bank
 module _ (y : RegSpec) where
   pub name-0 : y .bank ≡ 0 → nameOf y ≡ letters (cell quad-row (y .number)) ∷ []
-  unfolding nameOf names ascii cells cell lettersAt
-  name-0 h = rw h (by-row quad-row quads 16 refl refl (y .number))
+  unfolding nameOf names
+  name-0 h = rw h (quad-name (y .number))
 
   pub name-1 : y .bank ≡ 1 → nameOf y ≡ letters (cell double-row (y .number)) ∷ []
-  unfolding nameOf names ascii cells cell lettersAt
-  name-1 h = rw h (by-row double-row doubles 16 refl refl (y .number))
+  unfolding nameOf names
+  name-1 h = rw h (double-name (y .number))
 
   pub name-2 : y .bank ≡ 2 → nameOf y ≡ letters (cell word-row (y .number)) ∷ []
-  unfolding nameOf names ascii cells cell lettersAt
-  name-2 h = rw h (by-row word-row words 16 refl refl (y .number))
+  unfolding nameOf names
+  name-2 h = rw h (word-name (y .number))
 
   pub name-3 : y .bank ≡ 3 → nameOf y ≡ letters (cell low-row (y .number)) ∷ []
-  unfolding nameOf names ascii cells cell lettersAt
-  name-3 h = rw h (by-row low-row lows 16 refl refl (y .number))
+  unfolding nameOf names
+  name-3 h = rw h (low-name (y .number))
 
   pub name-4 : y .bank ≡ 4 → nameOf y ≡ letters (cell byte-row (y .number)) ∷ []
-  unfolding nameOf names ascii cells cell lettersAt
-  name-4 h = rw h (by-row byte-row bytes 8 refl refl (y .number))
+  unfolding nameOf names
+  name-4 h = rw h (byte-name (y .number))
 
   -- of any other, what the table says
   pub name-of : (bank : ℕ) → y .bank ≡ bank → nameOf y ≡ getD (names (y .number)) bank []

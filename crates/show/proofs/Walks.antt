@@ -6,6 +6,7 @@ use mathlib.Core.Path.{_≡_, refl, sym, ap, _∙_}
 use mathlib.Core.Logic.{⊎-elim, _⊎_}
 use mathlib.Core.List.{List, [], _∷_, _++_, append-assoc, append-nil}
 use lib.ListN.{length}
+use borrow.Author.Tests.{eq-eqb, ne-eqb}
 use denote.Enum.Declared.{tagOf, declared}
 use Rattle.laws.specs.Lists.{flat}
 use Rattle.laws.specs.Lending.{size, Logged}
@@ -15,8 +16,8 @@ use Rattle.definition.specs.Readings.{readAt}
 use Rattle.definition.specs.declared.Reading.{Reading}
 use Rattle.definition.specs.declared.Reading.the-variants.{Found, Bad, Finished}
 use Rattle.event.proofs.Fronts.{Moves, moves, finished}
-use Rattle.show.specs.Words.{Word, wordBytes}
-use Rattle.show.specs.Reports.{linedBy, linesFrom, linesOf}
+use Rattle.show.specs.Words.{Word, wordBytes, text}
+use Rattle.show.specs.Reports.{linedBy, linesFrom, linesOf, logWords}
 
 -- the rest of a walk goes by what was read
 same :
@@ -90,3 +91,12 @@ ended {ws = ws} g e =
       left = g .left;
       small = g .small;
     })
+
+-- a log in words: that it is empty, or its lines
+pub untouched : (l : List ℕ) → length l ≡ 0 → logWords l ≡ text "  touches nothing\n"
+unfolding logWords
+untouched l h = simp (eq-eqb (length l) 0 h)
+
+pub touched : (l : List ℕ) → (length l ≡ 0 → ⊥) → logWords l ≡ linesOf l
+unfolding logWords
+touched l h = simp (ne-eqb (length l) 0 h)

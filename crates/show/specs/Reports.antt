@@ -50,4 +50,4 @@ visitWords b file = outcomeWords (visitOf b file (replicate 177 0) 0)
 
 -- a record, by its number in the trace
 unfoldable pub recordWords : ℕ → List ℕ → List ℕ → List Word
-recordWords number b file = flat (around (ascii "record ") number (ascii "\n") ∷ visitWords b file ∷ [])
+recordWords number b file = around (ascii "record ") number (ascii "\n") ++ visitWords b file

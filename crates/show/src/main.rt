@@ -21,11 +21,7 @@ fn main() {
         say_help();
         return;
     }
-    let mut i = 1;
-    while i < count {
-        show_argument(i, 2 < count);
-        i += 1;
-    }
+    show_arguments(count);
 }
 
 fn asks_help() -> bool {
@@ -38,6 +34,14 @@ fn asks_help() -> bool {
         && word[3] == b'e'
         && word[4] == b'l'
         && word[5] == b'p'
+}
+
+fn show_arguments(count: usize) {
+    let mut i = 1;
+    while i < count {
+        show_argument(i, 2 < count);
+        i += 1;
+    }
 }
 
 // The trace that an argument names, under its name where there are several.

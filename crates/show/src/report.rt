@@ -11,9 +11,9 @@ ghost use Rattle.definition.specs.Visits.{countOf};
 ghost use Rattle.show.specs.Words.{wordBytes};
 ghost use Rattle.show.specs.Reports.{around, linesOf, logWords, answerWords, visitWords, recordWords};
 
-// The record of a number, under a register file: 8,192 bytes have room for the longest log in words.
+// The record of a number, under a register file.
 pub fn put_record(out: &mut [u8], number: u64, b: &[u8], file: &[u8]) -> usize
-    requires { ⌜ 8192 ≤ length (now out) ⌝ }
+    requires { ⌜ 12288 ≤ length (now out) ⌝ }
     ensures { λ r. ⌜ Logged wordBytes (recordWords number (now (b .entry)) (now (file .entry))) (now (out .entry)) (now (out .exit)) r ⌝ }
 {
     let a = put_around(out, b"record ", number, b"\n");
@@ -21,7 +21,7 @@ pub fn put_record(out: &mut [u8], number: u64, b: &[u8], file: &[u8]) -> usize
 }
 
 fn put_visit(out: &mut [u8], b: &[u8], file: &[u8]) -> usize
-    requires { ⌜ 8000 ≤ length (now out) ⌝ }
+    requires { ⌜ 11392 ≤ length (now out) ⌝ }
     ensures { λ r. ⌜ Logged wordBytes (visitWords (now (b .entry)) (now (file .entry))) (now (out .entry)) (now (out .exit)) r ⌝ }
 {
     let mut log = [0u8; 177];

@@ -66,13 +66,19 @@ fn is_record(n: u64) -> u64
     if n == 40 { 1 } else { 0 }
 }
 
-// A record of which the kind is read.
+// Reads the body of an item whose kind is read, and answers how many bytes of the body there are.
+fn read_item(fd: i32, kind: u8, item: &mut [u8]) -> usize
+    requires { ⌜ 1 ≤ length (now item) ⌝ }
+{
+    item[0] = kind;
+    io::read_full(fd, &mut item[1..])
+}
+
 fn show_record(fd: i32, at: u64, number: u64, file: &[u8]) -> u64
     ensures { λ r. ⌜ r ≤ 141 ⌝ }
 {
     let mut b = [0u8; 40];
-    b[0] = 0x10;
-    let n = io::read_full(fd, &mut b[1..]);
+    let n = read_item(fd, 0x10, &mut b);
     if n < 39 {
         say_cut(fd, at, b"record", n);
         return 0;
@@ -85,7 +91,7 @@ fn show_record(fd: i32, at: u64, number: u64, file: &[u8]) -> u64
 }
 
 fn print_record(number: u64, b: &[u8], file: &[u8]) -> bool {
-    let mut out = [0u8; 8192];
+    let mut out = [0u8; 12288];
     let n = put_record(&mut out, number, b, file);
     let is_written = io::write_all(STDOUT_FILENO, &out[..n]);
     if !is_written {
@@ -94,13 +100,12 @@ fn print_record(number: u64, b: &[u8], file: &[u8]) -> bool {
     is_written
 }
 
-// A register file of which the kind is read: it stands for the records after it.
+// A register file stands for the records after it.
 fn take_file(fd: i32, at: u64, file: &mut [u8]) -> u64
     requires { ⌜ length (now file) ≡ 141 ⌝ }
     ensures { λ r. ⌜ r ≤ 141 ⌝ }
 {
-    file[0] = 0x20;
-    let n = io::read_full(fd, &mut file[1..]);
+    let n = read_item(fd, 0x20, file);
     if n < 140 {
         say_cut(fd, at, b"register file", n);
         return 0;
