@@ -123,6 +123,8 @@ digests =
     ∷ ((opcode 13 ∷ count 1 ∷ behavior 0xEF ∷ []), fixed 0xEF 0xFF 9)
     ∷ ((long 41 ∷ []), record { number = 1; digest = digest 0 0 0 })
     ∷ ((count 5 ∷ []), record { number = 2; digest = digest 0 0 0 })
+    -- 1 before 2, where both tests refuse
+    ∷ ((count 5 ∷ long 39 ∷ []), record { number = 1; digest = digest 0 0 0 })
     ∷ []
 
 -- Exceptions: bit 13, and bit 14
@@ -153,6 +155,7 @@ exceptions =
     ∷ ((behavior 0x01 ∷ list 15 ∷ size 0 ∷ []), raises 0x6000)
     ∷ ((long 39 ∷ []), record { number = 1; info = infoOf 0 })
     ∷ ((count 5 ∷ behavior 0x01 ∷ []), record { number = 2; info = infoOf 0 })
+    ∷ ((count 5 ∷ behavior 0x01 ∷ long 39 ∷ []), record { number = 1; info = infoOf 0 })
     ∷ []
 
 -- Privilege
@@ -170,6 +173,7 @@ privileges =
     ∷ ((behavior 0xFF ∷ []), needs 0 Reserved)
     ∷ ((behavior 0x03 ∷ long 39 ∷ []), needs 1 Any)
     ∷ ((behavior 0x03 ∷ count 5 ∷ []), needs 2 Any)
+    ∷ ((behavior 0x03 ∷ count 5 ∷ long 39 ∷ []), needs 1 Any)
     ∷ []
 
 -- Reading a log at a place
@@ -237,6 +241,7 @@ records =
     ((opcode 0x1234 ∷ []), record { number = 0; read = recordOf (recordWith (opcode 0x1234 ∷ [])) })
     ∷ ((long 39 ∷ []), record { number = 1; read = recordOf [] })
     ∷ ((count 5 ∷ []), record { number = 2; read = recordOf [] })
+    ∷ ((count 5 ∷ long 39 ∷ []), record { number = 1; read = recordOf [] })
     ∷ []
 
 abbrev pub entryFor : ℕ × ℕ → Entry
