@@ -45,6 +45,11 @@ none-held : (l : ℕ) → any isEnd (implicitOf l) ≡ false
 unfolding implicitOf any
 none-held l = not-true _ (at (λ (k : ℕ) (es : List Entry). not (any isEnd es)) implicits [] refl (λ k. refl) l)
 
+-- list 0 has no entry
+pub none-at-0 : implicitOf 0 ≡ []
+unfolding implicitOf
+none-at-0 = refl
+
 -- there is no list above 28
 pub none-above : (l : ℕ) → 28 < l → implicitOf l ≡ []
 unfolding implicitOf

@@ -7,12 +7,12 @@ use definition::Term;
 use implicit::Entry;
 use implicit::ImplicitOperand;
 use record::Record;
-use registers::RegisterFile;
 ghost use mathlib.Core.Path.{_≡_};
 ghost use Prim.Native.Nat.{_≤_};
 ghost use lib.ListN.{length};
 ghost use Rattle.laws.specs.Lists.{each};
 ghost use Rattle.laws.specs.Lending.{size, Logged};
+ghost use Rattle.registers.specs.Files.{fileWith};
 ghost use Rattle.implicit.specs.Lists.{implicitOf};
 ghost use Rattle.definition.specs.Steps.{entrySteps};
 ghost use Rattle.definition.specs.Logs.{stepBytes};
@@ -46,16 +46,16 @@ fn implicit_address(o: ImplicitOperand) -> Address
 }
 
 // A string slot logs its register and no memory.
-fn put_entry(log: &mut [u8], f: RegisterFile, x: Record, e: Entry) -> usize
-    requires { ⌜ size (stepBytes f) (entrySteps x e) ≤ length (now log) ⌝ }
-    ensures { λ r. ⌜ Logged (stepBytes f) (entrySteps x e) (now (log .entry)) (now (log .exit)) r ⌝ }
+fn put_entry(log: &mut [u8], values: &[u64; 17], known: u32, x: Record, e: Entry) -> usize
+    requires { ⌜ size (stepBytes (fileWith (now values) known)) (entrySteps x e) ≤ length (now log) ⌝ }
+    ensures { λ r. ⌜ Logged (stepBytes (fileWith (now (values .entry)) known)) (entrySteps x e) (now (log .entry)) (now (log .exit)) r ⌝ }
 {
     match e {
         Entry::Operand(o, way) => {
             if let ImplicitOperand::Register(y) = o {
                 put_move(log, way, y)
             } else {
-                put_touch(log, f, way, implicit_address(o), 0, x.size)
+                put_touch(log, values, known, way, implicit_address(o), 0, x.size)
             }
         }
         Entry::Slot(i, way) => put_term(log, way, address::slot_register(x, i)),
@@ -63,12 +63,15 @@ fn put_entry(log: &mut [u8], f: RegisterFile, x: Record, e: Entry) -> usize
     }
 }
 
-// A list has at most four entries, and `End` is past its last.
-pub fn put_entries(log: &mut [u8], f: RegisterFile, x: Record) -> usize
-    requires { ⌜ size (stepBytes f) (each (entrySteps x) (implicitOf (x .digest .extra))) ≤ length (now log) ⌝ }
-    ensures { λ r. ⌜ Logged (stepBytes f) (each (entrySteps x) (implicitOf (x .digest .extra))) (now (log .entry)) (now (log .exit)) r ⌝ }
+// A list has at most four entries, and `End` is past its last. Most records have list 0, which has none: no entry is asked for.
+pub fn put_entries(log: &mut [u8], values: &[u64; 17], known: u32, x: Record) -> usize
+    requires { ⌜ size (stepBytes (fileWith (now values) known)) (each (entrySteps x) (implicitOf (x .digest .extra))) ≤ length (now log) ⌝ }
+    ensures { λ r. ⌜ Logged (stepBytes (fileWith (now (values .entry)) known)) (each (entrySteps x) (implicitOf (x .digest .extra))) (now (log .entry)) (now (log .exit)) r ⌝ }
 {
     let list = x.digest.extra;
+    if list == 0 {
+        return 0;
+    }
     let mut n = 0;
     let mut i: u8 = 0;
     while i < 4 {
@@ -76,7 +79,7 @@ pub fn put_entries(log: &mut [u8], f: RegisterFile, x: Record) -> usize
         if let Entry::End = e {
             return n;
         }
-        let k = put_entry(&mut log[n..], f, x, e);
+        let k = put_entry(&mut log[n..], values, known, x, e);
         n = n + k;
         i = i + 1;
     }

@@ -5,12 +5,12 @@ use crate::operands::put_operands;
 use implicit::Way;
 use record::Record;
 use registers::RegSpec;
-use registers::RegisterFile;
 ghost use mathlib.Core.Bool.{cond};
 ghost use mathlib.Core.List.{_∷_, []};
 ghost use Prim.Native.Nat.{_≤_};
 ghost use lib.ListN.{length};
 ghost use Rattle.laws.specs.Lending.{size, Logged};
+ghost use Rattle.registers.specs.Files.{fileWith};
 ghost use Rattle.definition.specs.Steps.{rflags, stepsOf};
 ghost use Rattle.definition.specs.Logs.{eventBytes, stepBytes};
 ghost use Rattle.steps.specs.Moves.{moved};
@@ -28,16 +28,16 @@ fn put_flags(log: &mut [u8], way: Way, on: bool) -> usize
 }
 
 // The implicit list, flags read, flags write, then the explicit operands. The record is one after fix-ups.
-pub fn put_log(log: &mut [u8], f: RegisterFile, x: Record) -> usize
-    requires { ⌜ size (stepBytes f) (stepsOf x) ≤ length (now log) ⌝ }
-    ensures { λ r. ⌜ Logged (stepBytes f) (stepsOf x) (now (log .entry)) (now (log .exit)) r ⌝ }
+pub fn put_log(log: &mut [u8], values: &[u64; 17], known: u32, x: Record) -> usize
+    requires { ⌜ size (stepBytes (fileWith (now values) known)) (stepsOf x) ≤ length (now log) ⌝ }
+    ensures { λ r. ⌜ Logged (stepBytes (fileWith (now (values .entry)) known)) (stepsOf x) (now (log .entry)) (now (log .exit)) r ⌝ }
 {
     let digest = x.digest;
     let flags = digest.flags_access();
     let read = flags.is_read();
     let write = flags.is_write();
-    let a = put_entries(log, f, x);
+    let a = put_entries(log, values, known, x);
     let b = a + put_flags(&mut log[a..], Way::Load, read);
     let c = b + put_flags(&mut log[b..], Way::Store, write);
-    c + put_operands(&mut log[c..], f, x)
+    c + put_operands(&mut log[c..], values, known, x)
 }

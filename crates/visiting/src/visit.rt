@@ -6,6 +6,7 @@ use record::Record;
 use registers::RegisterFile;
 ghost use mathlib.Core.Path.{_≡_};
 ghost use lib.ListN.{length};
+ghost use Rattle.registers.specs.Files.{fileWith};
 ghost use Rattle.definition.specs.Visits.{visitUnder, visitOf};
 ghost use Rattle.visiting.specs.Records.{logBytes, isFull, firstRefusal, refusalIn, visitRecord};
 
@@ -13,16 +14,16 @@ ghost use Rattle.visiting.specs.Records.{logBytes, isFull, firstRefusal,
 const MOST_BYTES: usize = 177;
 
 // How long the log of a record is: it is written aside, and counted.
-fn log_length(x: Record, f: RegisterFile) -> usize
-    ensures { λ n. ⌜ n ≡ length (logBytes x f) ⌝ }
+fn log_length(x: Record, values: &[u64; 17], known: u32) -> usize
+    ensures { λ n. ⌜ n ≡ length (logBytes x (fileWith (now (values .entry)) known)) ⌝ }
 {
     let mut aside = [0u8; MOST_BYTES];
-    steps::put_log(&mut aside, f, x)
+    steps::put_log(&mut aside, values, known, x)
 }
 
 // The log has no room from a start to the buffer's end. How long it is matters only where the longest has none.
-fn is_full(x: Record, f: RegisterFile, start: usize, end: usize) -> bool
-    ensures { λ r. ⌜ r ≡ isFull (length (logBytes x f)) start end ⌝ }
+fn is_full(x: Record, values: &[u64; 17], known: u32, start: usize, end: usize) -> bool
+    ensures { λ r. ⌜ r ≡ isFull (length (logBytes x (fileWith (now (values .entry)) known))) start end ⌝ }
 {
     if end < start {
         return true;
@@ -31,7 +32,7 @@ fn is_full(x: Record, f: RegisterFile, start: usize, end: usize) -> bool
     if MOST_BYTES <= left {
         return false;
     }
-    left < log_length(x, f)
+    left < log_length(x, values, known)
 }
 
 // The last four tests of the table, in its order.
@@ -53,14 +54,14 @@ fn first_refusal(complex: bool, nameless: bool, sizeless: bool, full: bool) -> u
     0
 }
 
-// The record is one after fix-ups.
-fn visit_record(x: Record, f: RegisterFile, log: &mut [u8], start: usize) -> Answer
-    ensures { λ r. ⌜ (r, now (log .exit)) ≡ visitRecord x f (now (log .entry)) start ⌝ }
+// The record is one after fix-ups. The values of the file are lent, with their known bits, to every writer.
+fn visit_record(x: Record, values: &[u64; 17], known: u32, log: &mut [u8], start: usize) -> Answer
+    ensures { λ r. ⌜ (r, now (log .exit)) ≡ visitRecord x (fileWith (now (values .entry)) known) (now (log .entry)) start ⌝ }
 {
-    let full = is_full(x, f, start, log.len());
+    let full = is_full(x, values, known, start, log.len());
     let number = first_refusal(fixups::is_complex(x), is_nameless(x), is_sizeless(x), full);
     match number {
-        0 => Answer::Done(steps::put_log(&mut log[start..], f, x)),
+        0 => Answer::Done(steps::put_log(&mut log[start..], values, known, x)),
         4 => Answer::Complex(x.opcode),
         _ => Answer::Refused(number),
     }
@@ -74,7 +75,7 @@ pub fn visit_under(b: &[u8], f: RegisterFile, log: &mut [u8], start: usize) -> A
     if found.number != 0 {
         return Answer::Refused(found.number);
     }
-    visit_record(fixups::fixed_up(found.read), f, log, start)
+    visit_record(fixups::fixed_up(found.read), &f.values, f.known, log, start)
 }
 
 pub fn visit_accesses(b: &[u8], file: &[u8], log: &mut [u8], start: usize) -> Answer
@@ -84,9 +85,15 @@ pub fn visit_accesses(b: &[u8], file: &[u8], log: &mut [u8], start: usize) -> An
     if found.number != 0 {
         return Answer::Refused(found.number);
     }
-    let known = RegisterFile::from_bytes(file);
-    if known.number != 0 {
-        return Answer::Refused(known.number);
+    let lent = RegisterFile::from_bytes(file);
+    if lent.number != 0 {
+        return Answer::Refused(lent.number);
     }
-    visit_record(fixups::fixed_up(found.read), known.file, log, start)
+    visit_record(
+        fixups::fixed_up(found.read),
+        &lent.file.values,
+        lent.file.known,
+        log,
+        start,
+    )
 }

@@ -6,37 +6,41 @@ use denote.Ref.{now}
 use mathlib.Core.List.{_∷_, map}
 use lib.ListN.{drop, drop-of-length-le}
 use Rattle.laws.specs.Lists.{each}
-use Rattle.laws.proofs.Lending.{Going, start, next, inside, fits, ends, whole, keeps}
+use Rattle.laws.proofs.Lending.{Going, start, next, inside, fits, ends, whole, keeps, silent}
 use Rattle.implicit.specs.Lists.{implicitOf}
-use Rattle.implicit.proofs.Laws.{at-most-four, step, stop}
+use Rattle.implicit.proofs.Laws.{none-at-0, at-most-four, told-by-tag, step, stop}
 use Rattle.definition.specs.Steps.{entrySteps}
 use Rattle.definition.specs.Logs.{stepBytes}
 use Rattle.steps.proofs.Walks.{each-flat}
-use Rattle.steps.proofs.Implicits.{no-end}
+use Rattle.registers.specs.Files.{fileWith}
 use Rattle.steps.proofs.entries.put_entries.Statement.{statement}
 use Rattle.steps.proofs.entries.put_entries.Tie as tie
 
 abbrev Inv-loop : tie.InvT-loop
-Inv-loop log₀ f x list n₀ i₀ log n i =
-    Going (stepBytes f) (each (entrySteps x) (implicitOf (x .digest .extra))) (map (entrySteps x) (drop i (implicitOf (x .digest .extra)))) log₀ log n
+Inv-loop log₀ values known x list n₀ i₀ log n i =
+    Going (stepBytes (fileWith values known)) (each (entrySteps x) (implicitOf (x .digest .extra))) (map (entrySteps x) (drop i (implicitOf (x .digest .extra)))) log₀ log n
 
 abbrev μ-loop : tie.MeasureT-loop
-μ-loop log₀ f x list n₀ i₀ log n i = 4 - i
+μ-loop log₀ values known x list n₀ i₀ log n i = 4 - i
 
 -- the next entry, and those after it
 going :
-    (c : tie.At-match-keys2 Inv-loop μ-loop) → let l = c .before .before .before .loop in let s = c .before .before .before .before .before .args in let es = implicitOf (s .x .digest .extra) in
-    Going (stepBytes (s .f)) (each (entrySteps (s .x)) es) (entrySteps (s .x) (c .before .implicit-entry .result) ∷ map (entrySteps (s .x)) (drop (l .i + 1) es)) (now (s .log)) (l .log) (l .n)
+    (c : tie.At-match-keys2 Inv-loop μ-loop) → let l = c .before .before .before .loop in let s = c .before .before .before .before .before .before .args in let es = implicitOf (s .x .digest .extra) in
+    Going (stepBytes (fileWith (now (s .values)) (s .known))) (each (entrySteps (s .x)) es) (entrySteps (s .x) (c .before .implicit-entry .result) ∷ map (entrySteps (s .x)) (drop (l .i + 1) es)) (now (s .log)) (l .log) (l .n)
 going c =
-    let e = step (c .before .before .before .before .before .args .x .digest .extra) (c .before .before .before .loop .i) (sym (c .before .implicit-entry .ensures)) (no-end (c .before .implicit-entry .result) (c .match .keys2)) in
+    let e = step (c .before .before .before .before .before .before .args .x .digest .extra) (c .before .before .before .loop .i) (sym (c .before .implicit-entry .ensures)) (told-by-tag (c .before .implicit-entry .result) (c .match .keys2)) in
     rw e at (c .before .before .before .loop .inv)
+
+returns : tie.Need-returns Inv-loop μ-loop
+unfolding each
+returns c = let s = c .before .before in rw (c .if1 .taken, none-at-0) (silent (stepBytes (fileWith (now (s .args .values)) (s .args .known))) (now (s .args .log)))
 
 loop-holds : tie.Need-loop-holds Inv-loop μ-loop
 loop-holds c =
-    let s = c .before in
+    let s = c .before .before in
     let es = implicitOf (s .args .x .digest .extra) in
     let e = each-flat (entrySteps (s .args .x)) es in
-    rw e at (start {enc = stepBytes (s .args .f)} (map (entrySteps (s .args .x)) es) (now (s .args .log)) (rw e (s .pre)) (s .good .0 .0))
+    rw e at (start {enc = stepBytes (fileWith (now (s .args .values)) (s .args .known))} (map (entrySteps (s .args .x)) es) (now (s .args .log)) (rw e (s .pre)) (s .good .0 .0))
 
 implicit-entry-requires : tie.Need-implicit-entry-requires Inv-loop μ-loop
 implicit-entry-requires c κs = search needs
@@ -47,9 +51,9 @@ enum-told c = search needs
 same-length : tie.Need-same-length Inv-loop μ-loop
 same-length c = keeps (c .before .before .before .before .loop .inv)
 
-returns : tie.Need-returns Inv-loop μ-loop
-returns c =
-    let e = stop (c .before .before .before .before .before .before .args .x .digest .extra) (c .before .before .before .before .loop .i) (sym (c .before .before .implicit-entry .ensures) ∙ c .enum-told .given .1) in
+returns-2 : tie.Need-returns-2 Inv-loop μ-loop
+returns-2 c =
+    let e = stop (c .before .before .before .before .before .before .before .args .x .digest .extra) (c .before .before .before .before .loop .i) (sym (c .before .before .implicit-entry .ensures) ∙ c .enum-told .given .1) in
     whole (rw e at (c .before .before .before .before .loop .inv))
 
 sub-put-entry : tie.Need-sub-put-entry Inv-loop μ-loop
@@ -79,9 +83,9 @@ loop-again c = next (going (c .before .before .before .before)) (c .before .befo
 same-length-2 : tie.Need-same-length-2 Inv-loop μ-loop
 same-length-2 c = keeps (c .before .loop .inv)
 
-returns-2 : tie.Need-returns-2 Inv-loop μ-loop
-returns-2 c =
-    let l = c .before .before .before .args .x .digest .extra in
+returns-3 : tie.Need-returns-3 Inv-loop μ-loop
+returns-3 c =
+    let l = c .before .before .before .before .args .x .digest .extra in
     let e = drop-of-length-le (implicitOf l) {i = c .before .loop .i} (omega (arith, c .loop-test .left, at-most-four l)) in
     whole (rw e at (c .before .loop .inv))
 
@@ -91,11 +95,12 @@ put-entries-spec =
     (tie.spec
     Inv-loop
     μ-loop
+    returns
     loop-holds
     implicit-entry-requires
     enum-told
     same-length
-    returns
+    returns-2
     sub-put-entry
     part-put-entry-start
     part-put-entry-end
@@ -105,4 +110,4 @@ put-entries-spec =
     loop-less
     loop-again
     same-length-2
-    returns-2)
+    returns-3)

@@ -11,8 +11,13 @@ use Rattle.steps.specs.Moves.{moved}
 use Rattle.steps.specs.Touches.{implicitAddress}
 use Rattle.steps.proofs.Events.{as-steps, as-events, events-moved, moves-logged, moves-room}
 use Rattle.steps.proofs.Implicits.{touch-of}
+use Rattle.registers.specs.Files.{fileWith}
+use Rattle.registers.specs.declared.RegisterFile.{RegisterFile}
 use Rattle.steps.proofs.entries.put_entry.Statement.{statement}
 use Rattle.steps.proofs.entries.put_entry.Tie as tie
+
+abbrev file : tie.Start → RegisterFile
+file s = fileWith (now (s .args .values)) (s .args .known)
 
 -- a memory form touches its address
 touched :
@@ -27,12 +32,12 @@ touched c =
 -- a slot moves its register
 slot :
     (c : tie.After-slot-register) → let s = c .before .before .before .before .before .before in
-    eventsOf (s .args .f) (entrySteps (s .args .x) (s .args .e)) ≡ moved (c .before .before .before .e2 .given .0 .1 .0) (termRegisters (c .slot-register .result))
+    eventsOf (file s) (entrySteps (s .args .x) (s .args .e)) ≡ moved (c .before .before .before .e2 .given .0 .1 .0) (termRegisters (c .slot-register .result))
 unfolding entrySteps
 slot c =
     let s = c .before .before .before .before .before .before in
     let i = c .before .before .before .e2 .given .0 .0 in
-    rw (c .before .before .before .e2 .given .1, c .slot-register .ensures, slot-registers (s .args .x) i) (events-moved (s .args .f) (c .before .before .before .e2 .given .0 .1 .0) (slotRegisters (s .args .x) i))
+    rw (c .before .before .before .e2 .given .1, c .slot-register .ensures, slot-registers (s .args .x) i) (events-moved (file s) (c .before .before .before .e2 .given .0 .1 .0) (slotRegisters (s .args .x) i))
 
 enum-known-e : tie.Need-enum-known-e
 enum-known-e c = search needs
@@ -45,7 +50,7 @@ unfolding entrySteps implicitStep
 put-move-requires c κs =
     let s = c .before .before .before .before .before .before .before .before in
     let way = c .before .before .before .before .before .e .given .0 .1 .0 in
-    moves-room (s .args .f) way (c .before .before .o .given .0 .0 ∷ []) (rw (c .before .before .before .before .before .e .given .1, c .before .before .o .given .1) at (s .pre))
+    moves-room (file s) way (c .before .before .o .given .0 .0 ∷ []) (rw (c .before .before .before .before .before .e .given .1, c .before .before .o .given .1) at (s .pre))
 
 implicit-address-requires : tie.Need-implicit-address-requires
 implicit-address-requires c κs = search needs
@@ -64,7 +69,7 @@ slot-register-requires c κs = search needs
 put-term-requires : tie.Need-put-term-requires
 put-term-requires c κs =
     let s = c .before .before .before .before .before .before in
-    as-events (s .args .f) (entrySteps (s .args .x) (s .args .e)) (slot c) (s .pre)
+    as-events (file s) (entrySteps (s .args .x) (s .args .e)) (slot c) (s .pre)
 
 enum-told : tie.Need-enum-told
 enum-told c = search needs
@@ -77,7 +82,7 @@ unfolding entrySteps implicitStep
 returns c =
     let s = c .before .before .before .before .before .before .before .before .before .before .before in
     let way = c .before .before .before .before .before .before .before .before .e .given .0 .1 .0 in
-    rw (c .before .before .before .before .before .before .before .before .e .given .1, c .before .before .before .before .before .o .given .1) (moves-logged (s .args .f) way (c .before .before .before .before .before .o .given .0 .0 ∷ []) (c .before .before .put-move .ensures))
+    rw (c .before .before .before .before .before .before .before .before .e .given .1, c .before .before .before .before .before .o .given .1) (moves-logged (file s) way (c .before .before .before .before .before .o .given .0 .0 ∷ []) (c .before .before .put-move .ensures))
 
 same-length-2 : tie.Need-same-length-2
 same-length-2 c = search needs
@@ -92,11 +97,11 @@ same-length-3 c = search needs
 returns-3 : tie.Need-returns-3
 returns-3 c =
     let s = c .before .before .before .before .before .before .before .before .before in
-    as-steps (s .args .f) (entrySteps (s .args .x) (s .args .e)) (slot (c .before .before .before)) (c .before .before .put-term .ensures)
+    as-steps (file s) (entrySteps (s .args .x) (s .args .e)) (slot (c .before .before .before)) (c .before .before .put-term .ensures)
 
 returns-4 : tie.Need-returns-4
 unfolding entrySteps
-returns-4 c = let s = c .before .before .before in rw (c .enum-told .given .1) (silent (stepBytes (s .args .f)) (now (s .args .log)))
+returns-4 c = let s = c .before .before .before in rw (c .enum-told .given .1) (silent (stepBytes (file s)) (now (s .args .log)))
 
 pub put-entry-spec : {M : Type 1} → statement M
 put-entry-spec =

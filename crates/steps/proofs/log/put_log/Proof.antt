@@ -17,8 +17,13 @@ use Rattle.definition.specs.Steps.{Step, rflags, entrySteps, operandSteps}
 use Rattle.definition.specs.Logs.{stepBytes}
 use Rattle.steps.proofs.Events.{logged-if, room-if}
 use Rattle.steps.proofs.Flags.{flagsRead, flagsWrite, steps-split}
+use Rattle.registers.specs.Files.{fileWith}
+use Rattle.registers.specs.declared.RegisterFile.{RegisterFile}
 use Rattle.steps.proofs.log.put_log.Statement.{statement}
 use Rattle.steps.proofs.log.put_log.Tie as tie
+
+abbrev file : tie.Start → RegisterFile
+file s = fileWith (now (s .args .values)) (s .args .known)
 
 abbrev implicits : tie.Start → List Step
 implicits s = each (entrySteps (s .args .x)) (implicitOf (s .args .x .digest .extra))
@@ -44,13 +49,13 @@ write-is :
     (c : tie.After-is-write) → c .is-write .result ≡ writing (flagsAccess (c .before .before .before .before .before .args .x .digest))
 write-is c = c .is-write .ensures ∙ ap writing (c .before .before .flags-access .ensures)
 
-room : (s : tie.Start) → size (stepBytes (s .args .f)) (all s) ≤ length (now (s .args .log))
+room : (s : tie.Start) → size (stepBytes (file s)) (all s) ≤ length (now (s .args .log))
 room s = rw (steps-split (s .args .x)) at (s .pre)
 
 one :
     (c : tie.After-put-entries) → let s = c .before .before .before .before .before .before .before in
     let p = c .put-entries in
-    Going (stepBytes (s .args .f)) (all s) (read s ∷ written s ∷ explicits s ∷ []) (now (s .args .log)) (p .last .0) (p .result)
+    Going (stepBytes (file s)) (all s) (read s ∷ written s ∷ explicits s ∷ []) (now (s .args .log)) (p .last .0) (p .result)
 one c =
     let s = c .before .before .before .before .before .before .before in
     first (read s ∷ written s ∷ explicits s ∷ []) (c .put-entries .ensures) (room s) (s .good .0 .0)
@@ -59,20 +64,20 @@ two :
     (c : tie.After-put-flags) → let s = c .before .before .before .before .before .before .before .before .before .before .before in
     let p = c .before .before .before .before .put-entries in
     let q = c .put-flags in
-    Going (stepBytes (s .args .f)) (all s) (written s ∷ explicits s ∷ []) (now (s .args .log)) (back (p .last .0) (p .result) (q .last .0)) (p .result + q .result)
+    Going (stepBytes (file s)) (all s) (written s ∷ explicits s ∷ []) (now (s .args .log)) (back (p .last .0) (p .result) (q .last .0)) (p .result + q .result)
 two c =
     let s = c .before .before .before .before .before .before .before .before .before .before .before in
-    next (one (c .before .before .before .before)) (rw (read-is (c .before .before .before .before .before .before)) at (logged-if (s .args .f) Load (c .before .before .before .before .before .before .before .is-read .result) rflags (c .put-flags .ensures)))
+    next (one (c .before .before .before .before)) (rw (read-is (c .before .before .before .before .before .before)) at (logged-if (file s) Load (c .before .before .before .before .before .before .before .is-read .result) rflags (c .put-flags .ensures)))
 
 three :
     (c : tie.After-put-flags2) → let s = c .before .before .before .before .before .before .before .before .before .before .before .before .before .before .before in
     let p = c .before .before .before .before .before .before .before .before .put-entries in
     let q = c .before .before .before .before .put-flags in
     let r = c .put-flags2 in
-    Going (stepBytes (s .args .f)) (all s) (explicits s ∷ []) (now (s .args .log)) (back (back (p .last .0) (p .result) (q .last .0)) (p .result + q .result) (r .last .0)) (p .result + q .result + r .result)
+    Going (stepBytes (file s)) (all s) (explicits s ∷ []) (now (s .args .log)) (back (back (p .last .0) (p .result) (q .last .0)) (p .result + q .result) (r .last .0)) (p .result + q .result + r .result)
 three c =
     let s = c .before .before .before .before .before .before .before .before .before .before .before .before .before .before .before in
-    next (two (c .before .before .before .before)) (rw (write-is (c .before .before .before .before .before .before .before .before .before .before)) at (logged-if (s .args .f) Store (c .before .before .before .before .before .before .before .before .before .before .is-write .result) rflags (c .put-flags2 .ensures)))
+    next (two (c .before .before .before .before)) (rw (write-is (c .before .before .before .before .before .before .before .before .before .before)) at (logged-if (file s) Store (c .before .before .before .before .before .before .before .before .before .before .is-write .result) rflags (c .put-flags2 .ensures)))
 
 four :
     (c : tie.After-put-operands) → let s = c .before .before .before .before .before .before .before .before .before .before .before .before .before .before .before .before .before .before .before in
@@ -80,7 +85,7 @@ four :
     let q = c .before .before .before .before .before .before .before .before .put-flags in
     let r = c .before .before .before .before .put-flags2 in
     let t = c .put-operands in
-    Going (stepBytes (s .args .f)) (all s) [] (now (s .args .log)) (back (back (back (p .last .0) (p .result) (q .last .0)) (p .result + q .result) (r .last .0)) (p .result + q .result + r .result) (t .last .0)) (p .result + q .result + r .result + t .result)
+    Going (stepBytes (file s)) (all s) [] (now (s .args .log)) (back (back (back (p .last .0) (p .result) (q .last .0)) (p .result + q .result) (r .last .0)) (p .result + q .result + r .result) (t .last .0)) (p .result + q .result + r .result + t .result)
 four c = next (three (c .before .before .before .before)) (c .put-operands .ensures)
 
 flags-access-requires : tie.Need-flags-access-requires
@@ -95,7 +100,7 @@ is-write-requires c κs = search needs
 put-entries-requires : tie.Need-put-entries-requires
 put-entries-requires c κs =
     let s = c .before .before .before .before .before .before in
-    fits-first (stepBytes (s .args .f)) (implicits s) (read s ∷ written s ∷ explicits s ∷ []) (room s)
+    fits-first (stepBytes (file s)) (implicits s) (read s ∷ written s ∷ explicits s ∷ []) (room s)
 
 sub-put-flags : tie.Need-sub-put-flags
 sub-put-flags c = inside (one (c .before .before))
@@ -109,12 +114,12 @@ part-put-flags-end c = search needs
 put-flags-requires : tie.Need-put-flags-requires
 put-flags-requires c κs =
     let s = c .before .before .before .before .before .before .before .before .before .before in
-    room-if (s .args .f) Load (c .before .before .before .before .before .before .is-read .result) rflags (rw (read-is (c .before .before .before .before .before)) (fits (one (c .before .before .before))))
+    room-if (file s) Load (c .before .before .before .before .before .before .is-read .result) rflags (rw (read-is (c .before .before .before .before .before)) (fits (one (c .before .before .before))))
 
 add-b : tie.Need-add-b
 add-b c =
     let s = c .before .before .before .before .before .before .before .before .before .before .before .before .before in
-    ends (one (c .before .before .before .before .before .before)) (rw (read-is (c .before .before .before .before .before .before .before .before)) at (logged-if (s .args .f) Load (c .before .before .before .before .before .before .before .before .before .is-read .result) rflags (c .before .before .put-flags .ensures)))
+    ends (one (c .before .before .before .before .before .before)) (rw (read-is (c .before .before .before .before .before .before .before .before)) at (logged-if (file s) Load (c .before .before .before .before .before .before .before .before .before .is-read .result) rflags (c .before .before .put-flags .ensures)))
 
 sub-put-flags-2 : tie.Need-sub-put-flags-2
 sub-put-flags-2 c = inside (two (c .before .before))
@@ -128,12 +133,12 @@ part-put-flags-end-2 c = search needs
 put-flags-requires-2 : tie.Need-put-flags-requires-2
 put-flags-requires-2 c κs =
     let s = c .before .before .before .before .before .before .before .before .before .before .before .before .before .before in
-    room-if (s .args .f) Store (c .before .before .before .before .before .before .before .before .before .is-write .result) rflags (rw (write-is (c .before .before .before .before .before .before .before .before .before)) (fits (two (c .before .before .before))))
+    room-if (file s) Store (c .before .before .before .before .before .before .before .before .before .is-write .result) rflags (rw (write-is (c .before .before .before .before .before .before .before .before .before)) (fits (two (c .before .before .before))))
 
 add-c : tie.Need-add-c
 add-c c =
     let s = c .before .before .before .before .before .before .before .before .before .before .before .before .before .before .before .before .before in
-    ends (two (c .before .before .before .before .before .before)) (rw (write-is (c .before .before .before .before .before .before .before .before .before .before .before .before)) at (logged-if (s .args .f) Store (c .before .before .before .before .before .before .before .before .before .before .before .before .is-write .result) rflags (c .before .before .put-flags2 .ensures)))
+    ends (two (c .before .before .before .before .before .before)) (rw (write-is (c .before .before .before .before .before .before .before .before .before .before .before .before)) at (logged-if (file s) Store (c .before .before .before .before .before .before .before .before .before .before .before .before .is-write .result) rflags (c .before .before .put-flags2 .ensures)))
 
 sub-put-operands : tie.Need-sub-put-operands
 sub-put-operands c = inside (three (c .before .before))

@@ -13,8 +13,13 @@ use Rattle.steps.specs.Moves.{registerOperand}
 use Rattle.steps.specs.Touches.{memoryOperand}
 use Rattle.steps.proofs.Events.{as-steps, as-events}
 use Rattle.steps.proofs.Shapes.{nothing-operand, immediate-operand, register-operand, fourth-operand, memory-operand}
+use Rattle.registers.specs.Files.{fileWith}
+use Rattle.registers.specs.declared.RegisterFile.{RegisterFile}
 use Rattle.steps.proofs.operands.put_operand.Statement.{statement}
 use Rattle.steps.proofs.operands.put_operand.Tie as tie
+
+abbrev file : tie.Start → RegisterFile
+file s = fileWith (now (s .args .values)) (s .args .known)
 
 abbrev operand : tie.Start → Operand
 operand s = operandAt (s .args .x) (s .args .i)
@@ -35,17 +40,17 @@ shape-is c = c .shape-of .ensures ∙ ap shapeOf (c .before .spec .ensures)
 -- what it does, by its shape
 register :
     (c : tie.After-mask-for) → let s = c .before .before .before .before .before .before .before .before .before .before .before .before .before in
-    eventsOf (s .args .f) (steps s) ≡ registerOperand (c .before .reg .result) (c .before .before .before .before .shape .given .0 .1 .0) (c .mask-for .result) (c .before .before .before .before .before .before .before .before .before .is-read .result) (c .before .before .before .before .before .before .before .before .is-write .result)
+    eventsOf (file s) (steps s) ≡ registerOperand (c .before .reg .result) (c .before .before .before .before .shape .given .0 .1 .0) (c .mask-for .result) (c .before .before .before .before .before .before .before .before .before .is-read .result) (c .before .before .before .before .before .before .before .before .is-write .result)
 register c =
     let s = c .before .before .before .before .before .before .before .before .before .before .before .before .before in
-    rw (c .before .reg .ensures, c .mask-for .ensures) (register-operand (s .args .f) (s .args .x) (operand s) (read-is (c .before .before .before .before .before .before .before .before)) (write-is (c .before .before .before .before .before .before .before .before)) (c .before .before .before .before .shape .given .0 .0) (c .before .before .before .before .shape .given .0 .1 .0) (sym (shape-is (c .before .before .before .before .before .before)) ∙ c .before .before .before .before .shape .given .1))
+    rw (c .before .reg .ensures, c .mask-for .ensures) (register-operand (file s) (s .args .x) (operand s) (read-is (c .before .before .before .before .before .before .before .before)) (write-is (c .before .before .before .before .before .before .before .before)) (c .before .before .before .before .shape .given .0 .0) (c .before .before .before .before .shape .given .0 .1 .0) (sym (shape-is (c .before .before .before .before .before .before)) ∙ c .before .before .before .before .shape .given .1))
 
 fourth :
     (c : tie.After-fourth-of) → let s = c .before .before .before .before .before .before .before .before .before .before .before in
-    eventsOf (s .args .f) (steps s) ≡ registerOperand (c .fourth-of .result) false 0 (c .before .before .before .before .before .before .before .is-read .result) (c .before .before .before .before .before .before .is-write .result)
+    eventsOf (file s) (steps s) ≡ registerOperand (c .fourth-of .result) false 0 (c .before .before .before .before .before .before .before .is-read .result) (c .before .before .before .before .before .before .is-write .result)
 fourth c =
     let s = c .before .before .before .before .before .before .before .before .before .before .before in
-    rw (c .fourth-of .ensures) (fourth-operand (s .args .f) (s .args .x) (operand s) (read-is (c .before .before .before .before .before .before)) (write-is (c .before .before .before .before .before .before)) (sym (shape-is (c .before .before .before .before)) ∙ c .before .before .enum-told2 .given .1))
+    rw (c .fourth-of .ensures) (fourth-operand (file s) (s .args .x) (operand s) (read-is (c .before .before .before .before .before .before)) (write-is (c .before .before .before .before .before .before)) (sym (shape-is (c .before .before .before .before)) ∙ c .before .before .enum-told2 .given .1))
 
 memory :
     (c : tie.After-mask-for2) → let s = c .before .before .before .before .before .before .before .before .before .before .before .before in
@@ -53,7 +58,7 @@ memory :
 memory c =
     let s = c .before .before .before .before .before .before .before .before .before .before .before .before in
     let p = c .before .before .before .shape2 .given .0 in
-    rw (c .before .operand-address .ensures, c .mask-for2 .ensures) (memory-operand (s .args .f) (s .args .x) (operand s) (read-is (c .before .before .before .before .before .before .before)) (write-is (c .before .before .before .before .before .before .before)) (p .0) (p .1 .0) (p .1 .1 .0) (p .1 .1 .1 .0) (sym (shape-is (c .before .before .before .before .before)) ∙ c .before .before .before .shape2 .given .1))
+    rw (c .before .operand-address .ensures, c .mask-for2 .ensures) (memory-operand (file s) (s .args .x) (operand s) (read-is (c .before .before .before .before .before .before .before)) (write-is (c .before .before .before .before .before .before .before)) (p .0) (p .1 .0) (p .1 .1 .0) (p .1 .1 .1 .0) (sym (shape-is (c .before .before .before .before .before)) ∙ c .before .before .before .shape2 .given .1))
 
 operand-access-requires : tie.Need-operand-access-requires
 operand-access-requires c κs = search needs
@@ -85,7 +90,7 @@ mask-for-requires c κs = search needs
 put-register-operand-requires : tie.Need-put-register-operand-requires
 put-register-operand-requires c κs =
     let s = c .before .before .before .before .before .before .before .before .before .before .before .before .before in
-    as-events (s .args .f) (steps s) (register c) (s .pre)
+    as-events (file s) (steps s) (register c) (s .pre)
 
 enum-told-2 : tie.Need-enum-told-2
 enum-told-2 c = search needs
@@ -96,7 +101,7 @@ fourth-of-requires c κs = search needs
 put-register-operand-requires-2 : tie.Need-put-register-operand-requires-2
 put-register-operand-requires-2 c κs =
     let s = c .before .before .before .before .before .before .before .before .before .before .before in
-    as-events (s .args .f) (steps s) (fourth c) (s .pre)
+    as-events (file s) (steps s) (fourth c) (s .pre)
 
 enum-told-3 : tie.Need-enum-told-3
 enum-told-3 c = search needs
@@ -118,7 +123,7 @@ put-memory-operand-requires c κs =
 returns : tie.Need-returns
 returns c =
     let s = c .before .before .before .before .before .before .before .before .before in
-    rw (nothing-operand (s .args .x) (operand s) (sym (shape-is (c .before .before)) ∙ c .enum-told .given .1)) (silent (stepBytes (s .args .f)) (now (s .args .log)))
+    rw (nothing-operand (s .args .x) (operand s) (sym (shape-is (c .before .before)) ∙ c .enum-told .given .1)) (silent (stepBytes (file s)) (now (s .args .log)))
 
 same-length : tie.Need-same-length
 same-length c = search needs
@@ -126,7 +131,7 @@ same-length c = search needs
 returns-2 : tie.Need-returns-2
 returns-2 c =
     let s = c .before .before .before .before .before .before .before .before .before .before .before .before .before .before .before .before in
-    as-steps (s .args .f) (steps s) (register (c .before .before .before)) (c .before .before .put-register-operand .ensures)
+    as-steps (file s) (steps s) (register (c .before .before .before)) (c .before .before .put-register-operand .ensures)
 
 same-length-2 : tie.Need-same-length-2
 same-length-2 c = search needs
@@ -134,12 +139,12 @@ same-length-2 c = search needs
 returns-3 : tie.Need-returns-3
 returns-3 c =
     let s = c .before .before .before .before .before .before .before .before .before .before .before .before .before .before in
-    as-steps (s .args .f) (steps s) (fourth (c .before .before .before)) (c .before .before .put-register-operand2 .ensures)
+    as-steps (file s) (steps s) (fourth (c .before .before .before)) (c .before .before .put-register-operand2 .ensures)
 
 returns-4 : tie.Need-returns-4
 returns-4 c =
     let s = c .before .before .before .before .before .before .before .before .before in
-    rw (immediate-operand (s .args .x) (operand s) (sym (shape-is (c .before .before)) ∙ c .enum-told3 .given .1)) (silent (stepBytes (s .args .f)) (now (s .args .log)))
+    rw (immediate-operand (s .args .x) (operand s) (sym (shape-is (c .before .before)) ∙ c .enum-told3 .given .1)) (silent (stepBytes (file s)) (now (s .args .log)))
 
 same-length-3 : tie.Need-same-length-3
 same-length-3 c = search needs

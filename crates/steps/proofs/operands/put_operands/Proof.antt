@@ -10,20 +10,21 @@ use Rattle.definition.specs.Behaviors.{operandAt, operandsOf}
 use Rattle.definition.specs.Steps.{operandSteps}
 use Rattle.definition.specs.Logs.{stepBytes}
 use Rattle.steps.proofs.Walks.{each-flat, operand-step}
+use Rattle.registers.specs.Files.{fileWith}
 use Rattle.steps.proofs.operands.put_operands.Statement.{statement}
 use Rattle.steps.proofs.operands.put_operands.Tie as tie
 
 abbrev Inv-loop : tie.InvT-loop
-Inv-loop log₀ f x count n₀ i₀ log n i =
-    (i ≤ count) × Going (stepBytes f) (each (operandSteps x) (operandsOf x)) (map (operandSteps x) (drop i (operandsOf x))) log₀ log n
+Inv-loop log₀ values known x count n₀ i₀ log n i =
+    (i ≤ count) × Going (stepBytes (fileWith values known)) (each (operandSteps x) (operandsOf x)) (map (operandSteps x) (drop i (operandsOf x))) log₀ log n
 
 abbrev μ-loop : tie.MeasureT-loop
-μ-loop log₀ f x count n₀ i₀ log n i = count - i
+μ-loop log₀ values known x count n₀ i₀ log n i = count - i
 
 -- the next operand, and those after it
 going :
     (c : tie.In-loop Inv-loop μ-loop) → let l = c .before .loop in let s = c .before .before .before .before .args in let os = operandsOf (s .x) in
-    Going (stepBytes (s .f)) (each (operandSteps (s .x)) os) (operandSteps (s .x) (operandAt (s .x) (l .i)) ∷ map (operandSteps (s .x)) (drop (l .i + 1) os)) (now (s .log)) (l .log) (l .n)
+    Going (stepBytes (fileWith (now (s .values)) (s .known))) (each (operandSteps (s .x)) os) (operandSteps (s .x) (operandAt (s .x) (l .i)) ∷ map (operandSteps (s .x)) (drop (l .i + 1) os)) (now (s .log)) (l .log) (l .n)
 going c =
     let e = operand-step (c .before .before .before .before .args .x) (c .before .loop .i) (omega (arith, c .loop-test .taken, c .before .before .operand-count .ensures)) in
     rw e at (c .before .loop .inv .1)
@@ -35,7 +36,7 @@ loop-holds : tie.Need-loop-holds Inv-loop μ-loop
 loop-holds c =
     let s = c .before .before in
     let e = each-flat (operandSteps (s .args .x)) (operandsOf (s .args .x)) in
-    (zero-le, rw e at (start {enc = stepBytes (s .args .f)} (map (operandSteps (s .args .x)) (operandsOf (s .args .x))) (now (s .args .log)) (rw e (s .pre)) (s .good .0 .0)))
+    (zero-le, rw e at (start {enc = stepBytes (fileWith (now (s .args .values)) (s .args .known))} (map (operandSteps (s .args .x)) (operandsOf (s .args .x))) (now (s .args .log)) (rw e (s .pre)) (s .good .0 .0)))
 
 sub-put-operand : tie.Need-sub-put-operand Inv-loop μ-loop
 sub-put-operand c = inside (going c)

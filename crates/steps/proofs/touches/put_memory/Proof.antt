@@ -8,20 +8,26 @@ use Rattle.steps.specs.Moves.{touchReads}
 use Rattle.steps.specs.Touches.{memorySteps}
 use Rattle.steps.proofs.Events.{as-steps, as-events}
 use Rattle.steps.proofs.Pieces.{events-stopped}
+use denote.Ref.{now}
+use Rattle.registers.specs.Files.{fileWith}
+use Rattle.registers.specs.declared.RegisterFile.{RegisterFile}
 use Rattle.steps.proofs.touches.put_memory.Statement.{statement}
 use Rattle.steps.proofs.touches.put_memory.Tie as tie
+
+abbrev file : tie.Start → RegisterFile
+file s = fileWith (now (s .args .values)) (s .args .known)
 
 abbrev stopped : tie.Start → List Step
 stopped s = map reads (registersOf (s .args .a)) ++ maskSteps (s .args .m)
 
-stopped-reads : (s : tie.Start) → eventsOf (s .args .f) (stopped s) ≡ touchReads (s .args .a) (s .args .m)
-stopped-reads s = events-stopped (s .args .f) (s .args .a) (s .args .m)
+stopped-reads : (s : tie.Start) → eventsOf (file s) (stopped s) ≡ touchReads (s .args .a) (s .args .m)
+stopped-reads s = events-stopped (file s) (s .args .a) (s .args .m)
 
 put-address-requires : tie.Need-put-address-requires
 unfolding memorySteps
 put-address-requires c κs =
     let s = c .before .before .before in
-    as-events (s .args .f) (stopped s) (stopped-reads s) (rw (c .before .if1 .taken) at (s .pre))
+    as-events (file s) (stopped s) (stopped-reads s) (rw (c .before .if1 .taken) at (s .pre))
 
 put-touch-requires : tie.Need-put-touch-requires
 unfolding memorySteps
@@ -34,7 +40,7 @@ returns : tie.Need-returns
 unfolding memorySteps
 returns c =
     let s = c .before .before .before .before .before .before in
-    rw (c .before .before .before .before .if1 .taken) (as-steps (s .args .f) (stopped s) (stopped-reads s) (c .before .before .put-address .ensures))
+    rw (c .before .before .before .before .if1 .taken) (as-steps (file s) (stopped s) (stopped-reads s) (c .before .before .put-address .ensures))
 
 same-length-2 : tie.Need-same-length-2
 same-length-2 c = search needs

@@ -11,8 +11,13 @@ use Rattle.implicit.specs.declared.Way.the-variants.{Load, Store}
 use Rattle.definition.specs.Steps.{Step}
 use Rattle.definition.specs.Logs.{stepBytes}
 use Rattle.steps.specs.Touches.{memorySteps, memoryOperand}
+use Rattle.registers.specs.Files.{fileWith}
+use Rattle.registers.specs.declared.RegisterFile.{RegisterFile}
 use Rattle.steps.proofs.touches.put_memory_operand.Statement.{statement}
 use Rattle.steps.proofs.touches.put_memory_operand.Tie as tie
+
+abbrev file : tie.Start → RegisterFile
+file s = fileWith (now (s .args .values)) (s .args .known)
 
 abbrev read : tie.Start → List Step
 read s = cond (s .args .read) (memorySteps Load (s .args .a) (s .args .m) (s .args .bytes) (s .args .lea)) []
@@ -23,14 +28,14 @@ write s = cond (s .args .write) (memorySteps Store (s .args .a) (s .args .m) (s 
 abbrev all : tie.Start → List Step
 all s = flat (read s ∷ write s ∷ [])
 
-room : (s : tie.Start) → size (stepBytes (s .args .f)) (all s) ≤ length (now (s .args .log))
+room : (s : tie.Start) → size (stepBytes (file s)) (all s) ≤ length (now (s .args .log))
 unfolding memoryOperand
 room s = s .pre
 
 one :
     (c : tie.After-put-memory-if) → let s = c .before .before .before in
     let p = c .put-memory-if in
-    Going (stepBytes (s .args .f)) (all s) (write s ∷ []) (now (s .args .log)) (p .last .0) (p .result)
+    Going (stepBytes (file s)) (all s) (write s ∷ []) (now (s .args .log)) (p .last .0) (p .result)
 unfolding memoryOperand
 one c = let s = c .before .before .before in first (write s ∷ []) (c .put-memory-if .ensures) (room s) (s .good .0 .0)
 
@@ -38,13 +43,13 @@ two :
     (c : tie.After-put-memory-if2) → let s = c .before .before .before .before .before .before .before in
     let p = c .before .before .before .before .put-memory-if in
     let q = c .put-memory-if2 in
-    Going (stepBytes (s .args .f)) (all s) [] (now (s .args .log)) (back (p .last .0) (p .result) (q .last .0)) (p .result + q .result)
+    Going (stepBytes (file s)) (all s) [] (now (s .args .log)) (back (p .last .0) (p .result) (q .last .0)) (p .result + q .result)
 unfolding memoryOperand
 two c = next (one (c .before .before .before .before)) (c .put-memory-if2 .ensures)
 
 put-memory-if-requires : tie.Need-put-memory-if-requires
 unfolding memoryOperand
-put-memory-if-requires c κs = let s = c .before .before in fits-first (stepBytes (s .args .f)) (read s) (write s ∷ []) (room s)
+put-memory-if-requires c κs = let s = c .before .before in fits-first (stepBytes (file s)) (read s) (write s ∷ []) (room s)
 
 sub-put-memory-if : tie.Need-sub-put-memory-if
 sub-put-memory-if c = inside (one (c .before .before))

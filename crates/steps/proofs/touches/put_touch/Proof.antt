@@ -14,8 +14,13 @@ use Rattle.definition.specs.declared.Event.{Event}
 use Rattle.definition.proofs.Events.{step-size, step-logged}
 use Rattle.steps.specs.Moves.{touchReads}
 use Rattle.steps.proofs.Pieces.{touch-split}
+use Rattle.registers.specs.Files.{fileWith}
+use Rattle.registers.specs.declared.RegisterFile.{RegisterFile}
 use Rattle.steps.proofs.touches.put_touch.Statement.{statement}
 use Rattle.steps.proofs.touches.put_touch.Tie as tie
+
+abbrev file : tie.Start → RegisterFile
+file s = fileWith (now (s .args .values)) (s .args .known)
 
 abbrev touch : tie.Start → Step
 touch s = touches (s .args .way) (s .args .a) (s .args .m) (s .args .n)
@@ -24,16 +29,16 @@ abbrev reads : tie.Start → List Event
 reads s = touchReads (s .args .a) (s .args .m)
 
 abbrev access : tie.Start → List Event
-access s = memoryEvent (s .args .way) (addressOf (s .args .f) (s .args .a)) (s .args .n) ∷ []
+access s = memoryEvent (s .args .way) (addressOf (file s) (s .args .a)) (s .args .n) ∷ []
 
 abbrev all : tie.Start → List Event
 all s = flat (reads s ∷ access s ∷ [])
 
-split : (s : tie.Start) → stepEvents (s .args .f) (touch s) ≡ all s
-split s = touch-split (s .args .f) (s .args .way) (s .args .a) (s .args .m) (s .args .n)
+split : (s : tie.Start) → stepEvents (file s) (touch s) ≡ all s
+split s = touch-split (file s) (s .args .way) (s .args .a) (s .args .m) (s .args .n)
 
 room : (s : tie.Start) → size eventBytes (all s) ≤ length (now (s .args .log))
-room s = rw (step-size (s .args .f) (touch s), split s) at (s .pre)
+room s = rw (step-size (file s) (touch s), split s) at (s .pre)
 
 one :
     (c : tie.After-put-address) → let s = c .before .before .before in
@@ -72,7 +77,7 @@ same-length c = keeps (two (c .before .before))
 returns : tie.Need-returns
 returns c =
     let s = c .before .before .before .before .before .before .before .before .before in
-    step-logged (s .args .f) (touch s) (rw (split s) (whole (two (c .before .before))))
+    step-logged (file s) (touch s) (rw (split s) (whole (two (c .before .before))))
 
 pub put-touch-spec : {M : Type 1} → statement M
 put-touch-spec =

@@ -19,8 +19,8 @@ from-bytes-requires-2 c κs = search needs
 
 returns-2 : tie.Need-returns-2
 returns-2 c =
-    let a = c .before .before .before .before .before .before .before .before .before .args in
-    bad-file (now (a .b)) (now (a .file)) (c .before .before .before .before .before .from-bytes .result) (c .before .before .before .before .before .from-bytes .ensures) (c .before .before .from-bytes2 .result) (c .before .before .from-bytes2 .ensures) (now (a .log)) (a .start) (c .before .before .before .if1 .left) (c .if2 .taken)
+    let a = c .before .before .before .before .before .before .before .before .args in
+    bad-file (now (a .b)) (now (a .file)) (c .before .before .before .before .from-bytes .result) (c .before .before .before .before .from-bytes .ensures) (c .before .from-bytes2 .result) (c .before .from-bytes2 .ensures) (now (a .log)) (a .start) (c .before .before .if1 .left) (c .if2 .taken)
 
 fixed-up-requires : tie.Need-fixed-up-requires
 fixed-up-requires c κs = search needs
@@ -33,8 +33,8 @@ same-length c = search needs
 
 returns-3 : tie.Need-returns-3
 returns-3 c =
-    let a = c .before .before .before .before .before .before .before .before .before .before .before .before .before .before .args in
-    rw (c .before .before .before .before .fixed-up .ensures, visited-under (now (a .b)) (now (a .file)) (c .before .before .before .before .before .before .before .before .before .before .from-bytes .result) (c .before .before .before .before .before .before .before .before .before .before .from-bytes .ensures) (c .before .before .before .before .before .before .before .from-bytes2 .result) (c .before .before .before .before .before .before .before .from-bytes2 .ensures) (now (a .log)) (a .start) (c .before .before .before .before .before .before .before .before .if1 .left) (c .before .before .before .before .before .if2 .left)) at (c .before .before .visit-record .ensures)
+    let a = c .before .before .before .before .before .before .before .before .before .before .before .before .before .before .before .args in
+    rw (c .before .before .before .before .before .before .fixed-up .ensures, visited-under (now (a .b)) (now (a .file)) (c .before .before .before .before .before .before .before .before .before .before .before .from-bytes .result) (c .before .before .before .before .before .before .before .before .before .before .before .from-bytes .ensures) (c .before .before .before .before .before .before .before .before .from-bytes2 .result) (c .before .before .before .before .before .before .before .before .from-bytes2 .ensures) (now (a .log)) (a .start) (c .before .before .before .before .before .before .before .before .before .if1 .left) (c .before .before .before .before .before .before .before .if2 .left)) at (c .before .before .visit-record .ensures)
 
 pub visit-accesses-spec : {M : Type 1} → statement M
 visit-accesses-spec =

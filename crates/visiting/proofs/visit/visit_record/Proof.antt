@@ -3,16 +3,17 @@ use Rattle.visiting.specs.Records.{refusalIn}
 use mathlib.Core.Path.{_≡_}
 use denote.Ref.{now}
 use borrow.Author.Needs.{needs}
+use Rattle.registers.specs.Files.{fileWith}
 use Rattle.visiting.proofs.visit.visit_record.Statement.{statement}
 use Rattle.visiting.proofs.visit.visit_record.Tie as tie
 
 -- the number is that of the record's refusal
 refusal :
     (c : tie.After-first-refusal) → let a = c .before .before .before .before .before .before .args in
-    c .first-refusal .result ≡ refusalIn (a .x) (a .f) (now (a .log)) (a .start)
+    c .first-refusal .result ≡ refusalIn (a .x) (fileWith (now (a .values)) (a .known)) (now (a .log)) (a .start)
 refusal c =
     let a = c .before .before .before .before .before .before .args in
-    told (a .x) (a .f) (now (a .log)) (a .start)
+    told (a .x) (fileWith (now (a .values)) (a .known)) (now (a .log)) (a .start)
     (c .first-refusal .ensures)
     (c .before .before .before .is-complex .ensures)
     (c .before .before .is-nameless .ensures)
@@ -37,12 +38,12 @@ first-refusal-requires c κs = search needs
 sub-put-log : tie.Need-sub-put-log
 sub-put-log c =
     let a = c .before .before .before .before .before .before .before .args in
-    inside (a .x) (a .f) (now (a .log)) (a .start) (refusal (c .before)) (c .match .keys1)
+    inside (a .x) (fileWith (now (a .values)) (a .known)) (now (a .log)) (a .start) (refusal (c .before)) (c .match .keys1)
 
 part-put-log-start : tie.Need-part-put-log-start
 part-put-log-start c =
     let a = c .before .before .before .before .before .before .before .args in
-    inside (a .x) (a .f) (now (a .log)) (a .start) (refusal (c .before)) (c .match .keys1)
+    inside (a .x) (fileWith (now (a .values)) (a .known)) (now (a .log)) (a .start) (refusal (c .before)) (c .match .keys1)
 
 part-put-log-end : tie.Need-part-put-log-end
 part-put-log-end c = search needs
@@ -50,7 +51,7 @@ part-put-log-end c = search needs
 put-log-requires : tie.Need-put-log-requires
 put-log-requires c κs =
     let a = c .before .before .before .before .before .before .before .before .args in
-    fits (a .x) (a .f) (now (a .log)) (a .start) (refusal (c .before .before)) (c .before .match .keys1)
+    fits (a .x) (fileWith (now (a .values)) (a .known)) (now (a .log)) (a .start) (refusal (c .before .before)) (c .before .match .keys1)
 
 same-length : tie.Need-same-length
 same-length c = search needs
@@ -58,17 +59,17 @@ same-length c = search needs
 returns : tie.Need-returns
 returns c =
     let a = c .before .before .before .before .before .before .before .before .before .before .before .args in
-    done (a .x) (a .f) (now (a .log)) (a .start) (refusal (c .before .before .before .before .before)) (c .before .before .before .before .match .keys1) (c .before .before .put-log .ensures)
+    done (a .x) (fileWith (now (a .values)) (a .known)) (now (a .log)) (a .start) (refusal (c .before .before .before .before .before)) (c .before .before .before .before .match .keys1) (c .before .before .put-log .ensures)
 
 returns-2 : tie.Need-returns-2
 returns-2 c =
     let a = c .before .before .before .before .before .before .before .args in
-    is-complex (a .x) (a .f) (now (a .log)) (a .start) (refusal (c .before)) (c .match .keys2)
+    is-complex (a .x) (fileWith (now (a .values)) (a .known)) (now (a .log)) (a .start) (refusal (c .before)) (c .match .keys2)
 
 returns-3 : tie.Need-returns-3
 returns-3 c =
     let a = c .before .before .before .before .before .before .before .args in
-    is-refused (a .x) (a .f) (now (a .log)) (a .start) (refusal (c .before)) (c .match .rest .0 .1) (c .match .rest .1)
+    is-refused (a .x) (fileWith (now (a .values)) (a .known)) (now (a .log)) (a .start) (refusal (c .before)) (c .match .rest .0 .1) (c .match .rest .1)
 
 pub visit-record-spec : {M : Type 1} → statement M
 visit-record-spec =
