@@ -4,3 +4,4 @@ pub mod Bounds
 pub mod ListingBound
 pub mod Events
 pub mod Outcomes
+pub mod Operands

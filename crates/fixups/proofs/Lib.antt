@@ -1,3 +1,3 @@
 pub mod Opcodes
-pub mod Operands
+pub mod Shapes
 pub mod Answers

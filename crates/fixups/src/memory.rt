@@ -8,7 +8,7 @@ ghost use Rattle.record.specs.Records.{specAt};
 ghost use Rattle.definition.specs.Tables.{shapeOf};
 ghost use Rattle.definition.specs.Behaviors.{isMemory, operandsOf, mayFault};
 
-fn is_memory(spec: u8) -> bool
+pub fn is_memory(spec: u8) -> bool
     ensures { λ r. ⌜ r ≡ isMemory (shapeOf spec) ⌝ }
 {
     18 <= spec && spec <= 35

@@ -13,7 +13,7 @@ use Rattle.definition.specs.Steps.{Step, moves}
 use Rattle.definition.specs.Logs.{stepEvents, eventsOf, eventBytes, stepBytes}
 use Rattle.definition.specs.declared.Event.{Event}
 use Rattle.definition.proofs.Events.{steps-bytes, steps-size}
-use Rattle.steps.specs.Moves.{moveEvent, moved}
+use Rattle.moves.specs.Moves.{moveEvent, moved}
 
 -- written, the events are the steps written, and they have the steps' room
 pub as-steps :
@@ -26,10 +26,6 @@ pub as-events :
     → eventsOf f ss ≡ es → size (stepBytes f) ss ≤ k → size eventBytes es ≤ k
 as-events f ss e h = rw (steps-size f ss, e) at h
 
-pub map-append : {A B : Type 0} (g : A → B) (xs ys : List A) → map g (xs ++ ys) ≡ map g xs ++ map g ys
-map-append g [] ys = refl
-map-append g (x ∷ xs) ys = ap (λ (l : List _). g x ∷ l) (map-append g xs ys)
-
 pub each-append : {A B : Type 0} (g : A → List B) (xs ys : List A) → each g (xs ++ ys) ≡ each g xs ++ each g ys
 unfolding each
 each-append g [] ys = refl
@@ -37,14 +33,6 @@ each-append g (x ∷ xs) ys =
     ap (λ (l : List _). g x ++ l) (each-append g xs ys) ∙ sym (append-assoc (g x) (each g xs) (each g ys))
 
 -- registers, one after the other
-pub moved-append : (w : Way) (xs ys : List RegSpec) → moved w (xs ++ ys) ≡ moved w xs ++ moved w ys
-unfolding moved
-moved-append w xs ys = map-append (moveEvent w) xs ys
-
-pub moved-cons : (w : Way) (y : RegSpec) (ys : List RegSpec) → moved w (y ∷ ys) ≡ flat (moved w (y ∷ []) ∷ moved w ys ∷ [])
-unfolding moved flat
-moved-cons w y ys = rw (append-nil (moved w ys))
-
 one-move : (f : RegisterFile) (w : Way) (y : RegSpec) → stepEvents f (moves w y) ≡ moveEvent w y ∷ []
 unfolding stepEvents
 one-move f Load y = refl

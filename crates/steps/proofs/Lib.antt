@@ -1,6 +1,5 @@
 pub mod Events
 pub mod Pieces
 pub mod Shapes
-pub mod Walks
 pub mod Implicits
 pub mod Flags

@@ -1,24 +1,17 @@
 -- The events of a touch, in the pieces in which they are written. Assumes nothing.
 use Prim.Native.Nat.{ℕ}
 use mathlib.Core.Path.{_≡_}
-use mathlib.Core.List.{[], _∷_, _++_, map, append-assoc, append-nil}
+use mathlib.Core.List.{[], _∷_, _++_, map, map-append, append-assoc}
 use Rattle.laws.specs.Lists.{flat}
 use Rattle.registers.specs.declared.RegisterFile.{RegisterFile}
 use Rattle.implicit.specs.declared.Way.{Way}
 use Rattle.implicit.specs.declared.Way.the-variants.{Load}
-use Rattle.definition.specs.Addresses.{termRegisters, registersOf, addressOf}
+use Rattle.definition.specs.Addresses.{registersOf, addressOf}
 use Rattle.definition.specs.Steps.{reads, touches, maskRegisters, maskSteps}
 use Rattle.definition.specs.Logs.{memoryEvent, stepEvents, eventsOf}
 use Rattle.definition.specs.declared.Address.{Address}
-use Rattle.steps.specs.Moves.{moved, touchReads}
-use Rattle.steps.proofs.Events.{map-append, moved-append, events-moved}
-
--- base, index, mask
-pub reads-split :
-    (a : Address) (m : ℕ)
-    → touchReads a m ≡ flat (moved Load (termRegisters (a .base)) ∷ moved Load (termRegisters (a .index)) ∷ moved Load (maskRegisters m) ∷ [])
-unfolding touchReads registersOf flat
-reads-split a m = simp (moved-append, append-assoc, append-nil)
+use Rattle.moves.specs.Moves.{moved, touchReads}
+use Rattle.steps.proofs.Events.{events-moved}
 
 -- all that is read, then the access
 pub touch-split :

@@ -17,7 +17,7 @@ use Rattle.definition.specs.declared.Base.{Base}
 use Rattle.definition.specs.declared.Displacement.{Displacement}
 use Rattle.definition.specs.declared.Shape.the-variants.{Nothing, Register, Fourth, Immediate, Memory}
 use Rattle.definition.specs.declared.Event.{Event}
-use Rattle.steps.specs.Moves.{moved, registerRead, maskedWrite, registerWrite, registerOperand}
+use Rattle.moves.specs.Moves.{moved, registerRead, maskedWrite, registerWrite, registerOperand}
 use Rattle.steps.specs.Touches.{memorySteps, memoryOperand}
 use Rattle.steps.proofs.Events.{each-append, events-moved}
 

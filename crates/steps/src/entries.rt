@@ -1,11 +1,11 @@
 // Implicit lists: entry by entry.
-use crate::moves::put_move;
-use crate::moves::put_term;
 use crate::touches::put_touch;
 use definition::Address;
 use definition::Term;
 use implicit::Entry;
 use implicit::ImplicitOperand;
+use moves::put_move;
+use moves::put_term;
 use record::Record;
 ghost use mathlib.Core.Path.{_≡_};
 ghost use Prim.Native.Nat.{_≤_};

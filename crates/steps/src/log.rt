@@ -1,8 +1,8 @@
 // The whole log of a visit.
 use crate::entries::put_entries;
-use crate::moves::put_move;
 use crate::operands::put_operands;
 use implicit::Way;
+use moves::put_move;
 use record::Record;
 use registers::RegSpec;
 ghost use mathlib.Core.Bool.{cond};
@@ -13,7 +13,7 @@ ghost use Rattle.laws.specs.Lending.{size, Logged};
 ghost use Rattle.registers.specs.Files.{fileWith};
 ghost use Rattle.definition.specs.Steps.{rflags, stepsOf};
 ghost use Rattle.definition.specs.Logs.{eventBytes, stepBytes};
-ghost use Rattle.steps.specs.Moves.{moved};
+ghost use Rattle.moves.specs.Moves.{moved};
 
 const RFLAGS: RegSpec = RegSpec {
     bank: 11,

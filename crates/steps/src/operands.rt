@@ -1,7 +1,7 @@
 // Explicit operands: for each its read part, then its write part.
-use crate::moves::put_register_operand;
 use crate::touches::put_memory_operand;
 use definition::Shape;
+use moves::put_register_operand;
 use record::Record;
 ghost use mathlib.Core.Path.{_≡_};
 ghost use Prim.Native.Nat.{_≤_};

@@ -1,7 +1,7 @@
 // Memory that is touched: the one place where a register file is asked.
-use crate::moves::put_address;
 use definition::Address;
 use implicit::Way;
+use moves::put_address;
 ghost use mathlib.Core.Bool.{cond};
 ghost use mathlib.Core.List.{_∷_, []};
 ghost use Prim.Native.Nat.{_≤_};

@@ -1,4 +1,2 @@
-pub mod Walk
-pub mod Shapes
 pub mod Visits
 pub mod Calls

@@ -1,8 +1,8 @@
 // The calls that visit a record: the log goes to the lent buffer from a start on, or a refusal changes nothing.
-use crate::refusals::is_nameless;
-use crate::refusals::is_sizeless;
 use definition::Answer;
 use record::Record;
+use refusals::is_nameless;
+use refusals::is_sizeless;
 use registers::RegisterFile;
 ghost use mathlib.Core.Path.{_≡_};
 ghost use lib.ListN.{length};

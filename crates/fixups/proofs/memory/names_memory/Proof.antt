@@ -1,7 +1,7 @@
 -- `names_memory` meets its contract: the four places, each by its test. Assumes nothing.
 use borrow.Author.Needs.{needs}
-use Rattle.definition.specs.Behaviors.{Operand, operandAt, operandsOf, isMemory}
-use Rattle.fixups.proofs.Operands.{first-four}
+use Rattle.definition.specs.Behaviors.{Operand, isMemory}
+use Rattle.definition.proofs.Operands.{some-operand}
 use Rattle.fixups.proofs.memory.names_memory.Statement.{statement}
 use Rattle.fixups.proofs.memory.names_memory.Tie as tie
 
@@ -18,11 +18,10 @@ memory-at-requires-4 : tie.Need-memory-at-requires-4
 memory-at-requires-4 c κs = search needs
 
 returns : tie.Need-returns
-unfolding operandsOf
 returns c =
     let x = c .before .before .before .before .args .x in
     rw (c .before .before .before .memory-at .ensures, c .before .before .memory-at2 .ensures, c .before .memory-at3 .ensures, c .memory-at4 .ensures)
-    (first-four (λ (o : Operand). isMemory (o .shape)) (x .count) (operandAt x 0) (operandAt x 1) (operandAt x 2) (operandAt x 3))
+    (some-operand (λ (o : Operand). isMemory (o .shape)) x)
 
 pub names-memory-spec : {M : Type 1} → statement M
 names-memory-spec =

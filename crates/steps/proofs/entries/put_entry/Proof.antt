@@ -7,7 +7,7 @@ use Rattle.definition.specs.Addresses.{termRegisters}
 use Rattle.definition.specs.Steps.{touches, entrySteps, implicitStep, slotRegisters}
 use Rattle.definition.specs.Logs.{eventsOf, stepBytes}
 use Rattle.address.proofs.Addresses.{slot-registers}
-use Rattle.steps.specs.Moves.{moved}
+use Rattle.moves.specs.Moves.{moved}
 use Rattle.steps.specs.Touches.{implicitAddress}
 use Rattle.steps.proofs.Events.{as-steps, as-events, events-moved, moves-logged, moves-room}
 use Rattle.steps.proofs.Implicits.{touch-of}

@@ -2,7 +2,7 @@ use borrow.Author.Needs.{needs}
 use denote.Ref.{now}
 use Rattle.laws.proofs.Lending.{silent}
 use Rattle.definition.specs.Logs.{eventBytes}
-use Rattle.steps.specs.Moves.{moved}
+use Rattle.moves.specs.Moves.{moved}
 use Rattle.steps.proofs.log.put_flags.Statement.{statement}
 use Rattle.steps.proofs.log.put_flags.Tie as tie
 

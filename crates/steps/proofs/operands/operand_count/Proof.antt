@@ -1,5 +1,5 @@
 use native.Mathlib.Omega.{arith}
-use Rattle.steps.proofs.Walks.{operands-length}
+use Rattle.definition.proofs.Operands.{operands-length}
 use Rattle.steps.proofs.operands.operand_count.Statement.{statement}
 use Rattle.steps.proofs.operands.operand_count.Tie as tie
 

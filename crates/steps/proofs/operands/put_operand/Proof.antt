@@ -9,7 +9,7 @@ use Rattle.definition.specs.Tables.{shapeOf}
 use Rattle.definition.specs.Behaviors.{Operand, operandAt}
 use Rattle.definition.specs.Steps.{Step, isLea, operandSteps}
 use Rattle.definition.specs.Logs.{eventsOf, stepBytes}
-use Rattle.steps.specs.Moves.{registerOperand}
+use Rattle.moves.specs.Moves.{registerOperand}
 use Rattle.steps.specs.Touches.{memoryOperand}
 use Rattle.steps.proofs.Events.{as-steps, as-events}
 use Rattle.steps.proofs.Shapes.{nothing-operand, immediate-operand, register-operand, fourth-operand, memory-operand}

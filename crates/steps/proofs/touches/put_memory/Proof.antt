@@ -4,7 +4,7 @@ use mathlib.Core.List.{List, _++_, map}
 use Rattle.definition.specs.Addresses.{registersOf}
 use Rattle.definition.specs.Steps.{Step, reads, maskSteps}
 use Rattle.definition.specs.Logs.{eventsOf}
-use Rattle.steps.specs.Moves.{touchReads}
+use Rattle.moves.specs.Moves.{touchReads}
 use Rattle.steps.specs.Touches.{memorySteps}
 use Rattle.steps.proofs.Events.{as-steps, as-events}
 use Rattle.steps.proofs.Pieces.{events-stopped}

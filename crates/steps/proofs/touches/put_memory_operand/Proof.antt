@@ -37,7 +37,7 @@ one :
     let p = c .put-memory-if in
     Going (stepBytes (file s)) (all s) (write s ∷ []) (now (s .args .log)) (p .last .0) (p .result)
 unfolding memoryOperand
-one c = let s = c .before .before .before in first (write s ∷ []) (c .put-memory-if .ensures) (room s) (s .good .0 .0)
+one c = let s = c .before .before .before in first {seg = read s} (write s ∷ []) (c .put-memory-if .ensures) (room s) (s .good .0 .0)
 
 two :
     (c : tie.After-put-memory-if2) → let s = c .before .before .before .before .before .before .before in

@@ -12,7 +12,7 @@ use Rattle.definition.specs.Steps.{Step, touches}
 use Rattle.definition.specs.Logs.{eventBytes, memoryEvent, stepEvents}
 use Rattle.definition.specs.declared.Event.{Event}
 use Rattle.definition.proofs.Events.{step-size, step-logged}
-use Rattle.steps.specs.Moves.{touchReads}
+use Rattle.moves.specs.Moves.{touchReads}
 use Rattle.steps.proofs.Pieces.{touch-split}
 use Rattle.registers.specs.Files.{fileWith}
 use Rattle.registers.specs.declared.RegisterFile.{RegisterFile}
