@@ -113,19 +113,22 @@ impl Record {
         }
     }
 
+    // The four are taken out before one is chosen: else the whole record is copied for it.
     pub fn spec(self, i: u8) -> u8
         ensures { λ r. ⌜ r ≡ specAt self i ⌝ }
     {
+        let specs = self.specs;
         let k = i as usize;
-        if k < 4 { self.specs[k] } else { 0 }
+        if k < 4 { specs[k] } else { 0 }
     }
 
     pub fn reg(self, i: u8) -> RegSpec
         ensures { λ r. ⌜ r ≡ regAt self i ⌝ }
     {
+        let regs = self.regs;
         let k = i as usize;
         if k < 4 {
-            self.regs[k]
+            regs[k]
         } else {
             RegSpec { bank: 0, number: 0 }
         }

@@ -9,17 +9,17 @@ use Rattle.record.proofs.Record.reg.Tie as tie
 mul-result : tie.Need-mul-result
 mul-result c = search needs
 
-element-copy-out-result : tie.Need-element-copy-out-result
-element-copy-out-result c = search needs
+array-copy-out-result : tie.Need-array-copy-out-result
+array-copy-out-result c = search needs
 
 returns : tie.Need-returns
 returns c = search needs
 
 returns-2 : tie.Need-returns-2
 returns-2 c =
-    let regs = c .before .args .t1 .regs in
-    let four : length regs ≡ 4 = simp length-map at (c .before .good .0 .1 .1 .1 .1 .1 .0 .1 .0 .1) in
-    sym (List·getD-eq-default regs (reg 0 0) {n = c .before .args .i} (omega (arith, four)))
+    let regs = c .before .before .args .self .regs in
+    let four : length regs ≡ 4 = simp length-map at (c .before .before .good .0 .1 .1 .1 .1 .1 .0 .1 .0 .1) in
+    sym (List·getD-eq-default regs (reg 0 0) {n = c .before .before .args .i} (omega (arith, four)))
 
 pub reg-spec : {M : Type 1} → statement M
-reg-spec = tie.close (tie.spec mul-result element-copy-out-result returns returns-2)
+reg-spec = tie.close (tie.spec mul-result array-copy-out-result returns returns-2)

@@ -1,31 +1,61 @@
-use mathlib.Core.Bool.{not, _&&_}
-use lib.Dec.{eqb}
-use borrow.Author.Needs.{needs}
-use Rattle.definition.specs.Behaviors.{Operand, isMemory}
-use Rattle.definition.specs.Refusals.{accessed}
-use Rattle.definition.proofs.Operands.{some-operand}
+use Rattle.definition.specs.Behaviors.{isMemory}
+use Rattle.refusals.proofs.Walk.{Left, all-left, none-left, hit, miss}
+use Rattle.definition.proofs.Operands.{operands-length}
+use mathlib.Core.Path.{sym, _∙_}
+use Prim.Native.Nat.{_-_}
+use native.Mathlib.Omega.{arith}
 use Rattle.refusals.proofs.operands.accesses_memory.Statement.{statement}
 use Rattle.refusals.proofs.operands.accesses_memory.Tie as tie
 
-is-memory-at-requires : tie.Need-is-memory-at-requires
-is-memory-at-requires c κs = search needs
+abbrev Inv-loop : tie.InvT-loop
+Inv-loop x count i₀ i = Left isMemory x i
 
-is-memory-at-requires-2 : tie.Need-is-memory-at-requires-2
-is-memory-at-requires-2 c κs = search needs
+abbrev μ-loop : tie.MeasureT-loop
+μ-loop x count i₀ i = 4 - i
 
-is-memory-at-requires-3 : tie.Need-is-memory-at-requires-3
-is-memory-at-requires-3 c κs = search needs
+loop-holds : tie.Need-loop-holds Inv-loop μ-loop
+loop-holds c = all-left isMemory (c .args .x)
 
-is-memory-at-requires-4 : tie.Need-is-memory-at-requires-4
-is-memory-at-requires-4 c κs = search needs
-
-returns : tie.Need-returns
-unfolding accessed
+returns : tie.Need-returns Inv-loop μ-loop
 returns c =
-    let x = c .before .before .before .before .args .x in
-    rw (c .before .before .before .is-memory-at .ensures, c .before .before .is-memory-at2 .ensures, c .before .is-memory-at3 .ensures, c .is-memory-at4 .ensures)
-    (some-operand (λ (o : Operand). not (eqb (o .access) 0) && isMemory (o .shape)) x)
+    let x = c .before .before .before .args .x in
+    none-left isMemory x (c .before .before .loop .inv) (omega (arith, operands-length x))
+
+is-memory-at-requires : tie.Need-is-memory-at-requires Inv-loop μ-loop
+is-memory-at-requires c κs = tt
+
+returns-2 : tie.Need-returns-2 Inv-loop μ-loop
+returns-2 c =
+    let x = c .before .before .before .before .before .args .x in
+    hit isMemory x (c .before .before .before .before .loop .inv) (omega (arith, operands-length x)) (sym (c .before .is-memory-at .ensures) ∙ c .if2 .taken)
+
+add-i : tie.Need-add-i Inv-loop μ-loop
+add-i c = omega arith
+
+loop-less : tie.Need-loop-less Inv-loop μ-loop
+loop-less c = omega arith
+
+loop-again : tie.Need-loop-again Inv-loop μ-loop
+loop-again c =
+    let x = c .before .before .before .before .before .args .x in
+    miss isMemory x (c .before .before .before .before .loop .inv) (omega (arith, operands-length x)) (sym (c .before .is-memory-at .ensures) ∙ c .if2 .left)
+
+returns-3 : tie.Need-returns-3 Inv-loop μ-loop
+returns-3 c =
+    let x = c .before .before .args .x in
+    none-left isMemory x (c .before .loop .inv) (omega (arith, operands-length x))
 
 pub accesses-memory-spec : {M : Type 1} → statement M
 accesses-memory-spec =
-    tie.close (tie.spec is-memory-at-requires is-memory-at-requires-2 is-memory-at-requires-3 is-memory-at-requires-4 returns)
+    tie.close
+    (tie.spec
+    Inv-loop
+    μ-loop
+    loop-holds
+    returns
+    is-memory-at-requires
+    returns-2
+    add-i
+    loop-less
+    loop-again
+    returns-3)

@@ -1,5 +1,4 @@
 use borrow.Author.Needs.{needs}
-use borrow.Author.Tests.{lt-ltb, le-ltb}
 use Rattle.refusals.proofs.operands.is_accessed.Statement.{statement}
 use Rattle.refusals.proofs.operands.is_accessed.Tie as tie
 
@@ -10,10 +9,7 @@ to-bits-requires : tie.Need-to-bits-requires
 to-bits-requires c κs = search needs
 
 returns : tie.Need-returns
-returns c = rw (lt-ltb _ _ (c .before .before .if1 .taken), c .to-bits .ensures, c .before .operand-access .ensures)
-
-returns-2 : tie.Need-returns-2
-returns-2 c = rw (le-ltb _ _ (c .if1 .left))
+returns c = rw (c .to-bits .ensures, c .before .operand-access .ensures)
 
 pub is-accessed-spec : {M : Type 1} → statement M
-is-accessed-spec = tie.close (tie.spec operand-access-requires to-bits-requires returns returns-2)
+is-accessed-spec = tie.close (tie.spec operand-access-requires to-bits-requires returns)

@@ -1,11 +1,5 @@
 use mathlib.Core.Path.{sym, _∙_}
-use mathlib.Core.Bool.{not, and-assoc}
-use lib.Dec.{eqb, ltb}
 use borrow.Author.Needs.{needs}
-use Rattle.digest.specs.Digests.{accessAt}
-use Rattle.record.specs.Records.{specAt}
-use Rattle.definition.specs.Tables.{shapeOf}
-use Rattle.definition.specs.Behaviors.{isMemory}
 use Rattle.refusals.proofs.operands.is_memory_at.Statement.{statement}
 use Rattle.refusals.proofs.operands.is_memory_at.Tie as tie
 
@@ -19,17 +13,10 @@ is-memory-requires : tie.Need-is-memory-requires
 is-memory-requires c κs = search needs
 
 returns : tie.Need-returns
-returns c =
-    let x = c .before .before .before .before .args .x in
-    let i = c .before .before .before .before .args .i in
-    rw (← and-assoc (ltb i (x .count)) (not (eqb (accessAt (x .digest) i) 0)) (isMemory (shapeOf (specAt x i))), sym (c .before .before .before .is-accessed .ensures) ∙ c .before .before .if1 .taken, ← c .before .spec .ensures)
-    (c .is-memory .ensures)
+returns c = rw (sym (c .before .before .before .is-accessed .ensures) ∙ c .before .before .if1 .taken, ← c .before .spec .ensures) (c .is-memory .ensures)
 
 returns-2 : tie.Need-returns-2
-returns-2 c =
-    let x = c .before .before .args .x in
-    let i = c .before .before .args .i in
-    rw (← and-assoc (ltb i (x .count)) (not (eqb (accessAt (x .digest) i) 0)) (isMemory (shapeOf (specAt x i))), sym (c .before .is-accessed .ensures) ∙ c .if1 .left) (c .if1 .left)
+returns-2 c = rw (sym (c .before .is-accessed .ensures) ∙ c .if1 .left) (c .if1 .left)
 
 pub is-memory-at-spec : {M : Type 1} → statement M
 is-memory-at-spec =
