@@ -9,7 +9,7 @@ use lib.Dec.{lit<}
 use borrow.Author.Tests.{lt-ltb, le-ltb}
 use Rattle.laws.specs.Words.{bit}
 use Rattle.access.specs.Accesses.{accessNumber}
-use Rattle.access.specs.Privileges.{levelNumber}
+use Rattle.access.specs.Privileges.{levelNumber, levelOf}
 use Rattle.access.specs.Exceptions.{infoOf, withBit, setOf, mayOf}
 use Rattle.access.specs.declared.Access.{Access}
 use Rattle.access.specs.declared.Access.the-variants.{None, Read, Write, ReadWrite}
@@ -42,10 +42,8 @@ access-back ReadWrite = refl
 pub access-one : (a b : Access) → accessNumber a ≡ accessNumber b → a ≡ b
 access-one a b e = sym (access-back a) ∙ ap accessOf e ∙ access-back b
 
-abbrev levelOf : ℕ → PrivilegeLevel
-levelOf n = getD (Any ∷ PL0 ∷ Special ∷ []) n Reserved
-
-level-back : (l : PrivilegeLevel) → levelOf (levelNumber l) ≡ l
+-- a level is that of its number
+pub level-back : (l : PrivilegeLevel) → levelOf (levelNumber l) ≡ l
 level-back Any = refl
 level-back PL0 = refl
 level-back Special = refl

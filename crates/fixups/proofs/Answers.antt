@@ -1,15 +1,11 @@
--- What the calls answer: the two exceptions as bits of a set, a level by its number, and the choice between a record and its refusal.
--- Assumes nothing.
+-- What the calls answer: the two exceptions as bits of a set, and the choice between a record and its refusal. Assumes nothing.
 use Prim.Native.Nat.{ℕ, _+_, _^_}
 use mathlib.Core.Path.{_≡_, refl, sym, ap, _∙_}
 use mathlib.Core.List.{List}
 use lib.Dec.{eqb}
 use borrow.Author.Tests.{eq-eqb, ne-eqb}
 use mathlib.Core.Bool.{Bool, true, false, cond}
-use Rattle.access.specs.Privileges.{levelNumber, levelOf}
 use Rattle.access.specs.Exceptions.{withBit}
-use Rattle.access.specs.declared.PrivilegeLevel.{PrivilegeLevel}
-use Rattle.access.specs.declared.PrivilegeLevel.the-variants.{Any, PL0, Special, Reserved}
 use Rattle.record.specs.Records.{recordOf, recordRefusal, recordAnswer}
 use Rattle.record.specs.declared.Record.{Record}
 use Rattle.record.specs.declared.RecordAnswer.{RecordAnswer}
@@ -21,13 +17,6 @@ two-vectors true true = refl
 two-vectors true false = refl
 two-vectors false true = refl
 two-vectors false false = refl
-
--- a level is that of its number
-pub level-back : (l : PrivilegeLevel) → levelOf (levelNumber l) ≡ l
-level-back Any = refl
-level-back PL0 = refl
-level-back Special = refl
-level-back Reserved = refl
 
 -- what a call answers of a record that was read: one answer where it is refused, and one by the record where it is not
 module _ {A : Type 0} (b : List ℕ) (r : RecordAnswer) (e : r ≡ recordAnswer b) (f : Record → A) (g : ℕ → A) where
