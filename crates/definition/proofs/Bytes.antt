@@ -2,7 +2,7 @@
 use mathlib.Core.Path.{_≡_, refl, sym, ap, _∙_}
 use mathlib.Core.List.{List, [], _∷_, _++_}
 use Rattle.laws.specs.Lists.{each}
-use Rattle.laws.proofs.Lending.{each-append}
+use Rattle.laws.proofs.Lists.{each-append}
 use Rattle.registers.specs.declared.RegisterFile.{RegisterFile}
 use Rattle.definition.specs.Steps.{Step}
 use Rattle.definition.specs.Logs.{stepEvents, eventsOf, eventBytes, bytesOf, stepBytes}

@@ -1,4 +1,5 @@
 -- The laws that every layer cites, one subject a file.
+pub mod Lists
 pub mod Lending
 pub mod Every
 pub mod Span
