@@ -3,7 +3,7 @@ use Prim.Native.Nat.{ℕ, _+_, _<_, _^_}
 use native.Mathlib.Omega.{arith}
 use mathlib.Core.Path.{_≡_, refl, sym, ap}
 use mathlib.Core.Bool.{true}
-use mathlib.Core.List.{List, [], _∷_, _++_, append-nil}
+use mathlib.Core.List.{List, [], _∷_, _++_}
 use lib.ListN.{length, drop}
 use lib.Seq.{drop-at}
 use Rattle.laws.specs.Words.{numberAt, little}
@@ -11,6 +11,7 @@ use Rattle.laws.specs.Lists.{each}
 use Rattle.laws.specs.Lending.{Logged}
 use Rattle.laws.proofs.Every.{Every}
 use Rattle.laws.proofs.Numbers.{number-round}
+use Rattle.laws.proofs.OneByOne.{unlogged}
 use Rattle.definition.specs.declared.Event.{Event}
 use Rattle.definition.specs.declared.Event.the-variants.{RegisterRead, RegisterWrite, MemoryRead, MemoryWrite, UnknownRead, UnknownWrite}
 use Rattle.definition.specs.declared.Reading.the-variants.{Found}
@@ -52,8 +53,9 @@ round pre post e h = rw (drop-at pre (eventBytes e ++ post) (length pre) refl, f
 
 -- what a writer left at the front of what was lent to it
 pub written-read : (e : Event) {old new : List ℕ} {n : ℕ} → Logged eventBytes (e ∷ []) old new n → Held e → readFront new ≡ Found e n
-unfolding each
-written-read e {old} w h = rw (w .bytes, w .count, append-nil (eventBytes e)) (front-round e (drop (length (eventBytes e)) old) h)
+written-read e {old} w h =
+    let one = unlogged eventBytes e w in
+    rw (one .1, one .0) (front-round e (drop (length (eventBytes e)) old) h)
 
 -- a whole log
 pub log-round : (es : List Event) → Every Held es → Reads (bytesOf es) es
