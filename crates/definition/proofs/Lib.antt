@@ -1,6 +1,5 @@
 pub mod Weights
-pub mod Bytes
+pub mod Events
 pub mod Bounds
 pub mod ListingBound
-pub mod Events
 pub mod Outcomes
