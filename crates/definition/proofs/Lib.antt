@@ -3,3 +3,4 @@ pub mod Events
 pub mod Bounds
 pub mod ListingBound
 pub mod Outcomes
+pub mod RoundTrip
