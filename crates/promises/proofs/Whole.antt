@@ -1,15 +1,15 @@
 -- What a visit wrote reads back as its events, and all else in the buffer stays. Assumes nothing.
 use Prim.Native.Nat.{ℕ, _+_}
-use native.Mathlib.Omega.{arith}
 use native.Mathlib.Nat.{add-assoc, add-zero}
 use mathlib.Core.Path.{_≡_, sym, ap, _∙_}
 use mathlib.Core.List.{List, [], _∷_, _++_, append-assoc}
 use mathlib.Core.Bool.{Bool, false, not}
+use lib.Dec.{lit<}
 use lib.ListN.{length, take, drop, length-append, take-append-drop}
 use lib.Seq.{drop-drop, drop-append-seam}
 use Rattle.laws.specs.Lists.{each}
 use Rattle.laws.specs.Lending.{splice}
-use Rattle.laws.proofs.Every.{Every}
+use Rattle.laws.proofs.Every.{Every, first-zero}
 use Rattle.registers.specs.Files.{fileOf, isFile}
 use Rattle.registers.specs.declared.RegisterFile.{RegisterFile}
 use Rattle.record.specs.Records.{isRecord, recordOf, outside}
@@ -25,7 +25,7 @@ use Rattle.definition.specs.declared.Event.{Event}
 use Rattle.definition.specs.declared.Reading.the-variants.{Found}
 use Rattle.definition.proofs.RoundTrip.{round-trip, log-round-trip}
 use Rattle.promises.specs.Calls.{Written, ReadsFrom, stop, step}
-use Rattle.promises.proofs.Outcomes.{none-holds, done-is, spliced}
+use Rattle.promises.proofs.Outcomes.{done-is, spliced}
 use Rattle.promises.proofs.Good.{GoodEvent, fixed-sound, events-good}
 
 -- a good event reads back, whatever stands behind it
@@ -73,10 +73,7 @@ module _ (bad : Bool) (b : List ℕ) (f : RegisterFile) (p : List ℕ) (s n : �
 
   visit-tests : Every (λ t. t .0 ≡ false) tests
   unfolding refusalOf
-  visit-tests =
-      none-holds tests
-      ((λ e. omega arith), ((λ e. omega arith), ((λ e. omega arith), ((λ e. omega arith), ((λ e. omega arith), ((λ e. omega arith), ((λ e. omega arith), tt)))))))
-      (visit-done .0)
+  visit-tests = first-zero tests (lit< tt, (lit< tt, (lit< tt, (lit< tt, (lit< tt, (lit< tt, (lit< tt, tt))))))) (visit-done .0)
 
   pub visit-written : Written (bytesOf (logOf b f)) p new s n
   visit-written = rw (visit-done .1, visit-done .2) (spliced (bytesOf (logOf b f)) p s (visit-tests .1 .1 .1 .1 .1 .1 .0))
@@ -111,8 +108,7 @@ module _ (b p : List ℕ) (s n : ℕ) (new : List ℕ) (done : listingCall b p s
 
   listing-tested : Every (λ t. t .0 ≡ false) listing-tests
   unfolding listingRefusal
-  listing-tested =
-      none-holds listing-tests ((λ e. omega arith), ((λ e. omega arith), ((λ e. omega arith), ((λ e. omega arith), tt)))) (listing-done .0)
+  listing-tested = first-zero listing-tests (lit< tt, (lit< tt, (lit< tt, (lit< tt, tt)))) (listing-done .0)
 
   pub listing-written : Written (listingOf (fixedRecord b)) p new s n
   listing-written = rw (listing-done .1, listing-done .2) (spliced (listingOf (fixedRecord b)) p s (listing-tested .1 .1 .1 .0))
