@@ -3,13 +3,11 @@
 use Prim.Native.Nat.{ℕ, _≤_, _<_}
 use mathlib.Core.Path.{_≡_, refl, sym, ap, _∙_}
 use mathlib.Core.Bool.{Bool, false}
-use mathlib.Core.List.{[], _∷_}
-use lib.ListN.{getD}
 use lib.Dec.{lit<}
 use borrow.Author.Tests.{lt-ltb, le-ltb}
 use Rattle.laws.specs.Words.{bit}
-use Rattle.access.specs.Accesses.{accessNumber}
-use Rattle.access.specs.Privileges.{levelNumber}
+use Rattle.access.specs.Accesses.{accessNumber, accessOf}
+use Rattle.access.specs.Privileges.{levelNumber, levelOf}
 use Rattle.access.specs.Exceptions.{infoOf, withBit, setOf, mayOf}
 use Rattle.access.specs.declared.Access.{Access}
 use Rattle.access.specs.declared.Access.the-variants.{None, Read, Write, ReadWrite}
@@ -29,10 +27,8 @@ level-lt PL0 = lit< tt
 level-lt Special = lit< tt
 level-lt Reserved = lit< tt
 
-abbrev accessOf : ℕ → Access
-accessOf n = getD (None ∷ Read ∷ Write ∷ []) n ReadWrite
-
-access-back : (a : Access) → accessOf (accessNumber a) ≡ a
+-- an access is that of its number
+pub access-back : (a : Access) → accessOf (accessNumber a) ≡ a
 access-back None = refl
 access-back Read = refl
 access-back Write = refl
@@ -42,10 +38,8 @@ access-back ReadWrite = refl
 pub access-one : (a b : Access) → accessNumber a ≡ accessNumber b → a ≡ b
 access-one a b e = sym (access-back a) ∙ ap accessOf e ∙ access-back b
 
-abbrev levelOf : ℕ → PrivilegeLevel
-levelOf n = getD (Any ∷ PL0 ∷ Special ∷ []) n Reserved
-
-level-back : (l : PrivilegeLevel) → levelOf (levelNumber l) ≡ l
+-- a level is that of its number
+pub level-back : (l : PrivilegeLevel) → levelOf (levelNumber l) ≡ l
 level-back Any = refl
 level-back PL0 = refl
 level-back Special = refl

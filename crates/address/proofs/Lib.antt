@@ -1,3 +1,2 @@
-pub mod Keys
 pub mod Doubling
 pub mod Addresses

@@ -41,7 +41,7 @@ use Rattle.definition.specs.declared.Shape.the-variants.{Nothing, Regist
 use Rattle.definition.specs.declared.Event.{Event}
 use Rattle.definition.specs.declared.Event.the-variants.{RegisterRead, RegisterWrite, MemoryRead, MemoryWrite, UnknownRead, UnknownWrite}
 use Rattle.definition.proofs.Weights.{cond-le, weigh, weigh-append, weigh-cond, weigh-le, weigh-take, weigh-map, weigh-each, length-each, light, light-at}
-use Rattle.definition.proofs.Bytes.{steps-bytes}
+use Rattle.definition.proofs.Events.{steps-bytes}
 
 -- what an event, a step and an entry of a list cost, where a register event costs n and a memory event m
 abbrev eventCost : ℕ → ℕ → Event → ℕ

@@ -1,7 +1,7 @@
 pub mod Weights
-pub mod Bytes
+pub mod Events
 pub mod Bounds
 pub mod ListingBound
-pub mod Events
 pub mod Outcomes
 pub mod Operands
+pub mod RoundTrip

@@ -5,22 +5,15 @@ use native.Mathlib.Numerals.{add-one}
 use native.Mathlib.Omega.{arith}
 use mathlib.Core.Path.{_≡_, refl, sym, ap, _∙_}
 use mathlib.Core.Bool.{Bool, _&&_, _||_, or-false, or-assoc}
-use mathlib.Core.List.{List, [], _∷_, _++_, map}
+use mathlib.Core.List.{List, [], _∷_}
 use lib.ListN.{length, getD, take, drop, length-take}
 use lib.Seq.{drop-cons, getD-take, take-nil}
 use lib.Dec.{ltb}
 use borrow.Author.Tests.{lt-ltb}
-use Rattle.laws.specs.Lists.{each, flat}
 use Rattle.laws.specs.Tests.{any}
 use Rattle.record.specs.declared.Record.{Record}
 use Rattle.record.proofs.Laws.{some-of-four}
 use Rattle.definition.specs.Behaviors.{Operand, operandAt, operandsOf}
-
--- what each element gives is what the segments of all give
-pub each-flat : {A B : Type 0} (g : A → List B) (xs : List A) → flat (map g xs) ≡ each g xs
-unfolding each flat
-each-flat g [] = refl
-each-flat g (x ∷ xs) = ap (λ (l : List _). g x ++ l) (each-flat g xs)
 
 -- the four operands
 abbrev four : Record → List Operand

@@ -2,22 +2,12 @@
 use Prim.Native.Nat.{ℕ, _≤_}
 use native.Mathlib.Omega.{arith}
 use mathlib.Core.Path.{_≡_, refl, _∙_}
-use mathlib.Core.List.{List, [], _∷_, _++_, append-nil}
+use mathlib.Core.List.{List, [], _∷_, _++_}
 use lib.ListN.{length, drop, set, length-set, length-append, length-drop}
 use Rattle.laws.specs.Words.{little}
-use Rattle.laws.specs.Lists.{each}
-use Rattle.laws.specs.Lending.{Logged}
 use Rattle.laws.proofs.Lending.{part, back, laid, stored}
 use Rattle.laws.proofs.Numbers.{little-length}
-use Rattle.definition.specs.declared.Event.{Event}
-use Rattle.definition.specs.Logs.{eventBytes, memoryBytes}
-
--- one event's bytes at the front
-pub logged :
-    (e : Event) {old new : List ℕ} {n : ℕ}
-    → (n ≡ length (eventBytes e)) × (new ≡ eventBytes e ++ drop (length (eventBytes e)) old) → Logged eventBytes (e ∷ []) old new n
-unfolding each
-logged e w = record { count = rw (append-nil (eventBytes e)) (w .0); bytes = rw (append-nil (eventBytes e)) (w .1) }
+use Rattle.definition.specs.Logs.{memoryBytes}
 
 -- a kind, an address through the part that is lent on, and a size
 module _ (kind a : ℕ) (old : List ℕ) {new : List ℕ} (room : 10 ≤ length old) (lent : new ≡ little 8 a ++ drop 8 (part (set old 0 kind) 1)) where

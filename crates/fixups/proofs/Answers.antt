@@ -1,19 +1,15 @@
--- What the calls answer: the two exceptions as bits of a set, a level by its number, and the choice between a record and its refusal.
--- Assumes nothing.
+-- What the calls answer: the two exceptions as bits of a set, and the choice between a record and its refusal. Assumes nothing.
 use Prim.Native.Nat.{ℕ, _+_, _^_}
-use mathlib.Core.Path.{_≡_, refl, sym, ap, _∙_}
+use mathlib.Core.Path.{_≡_, refl, sym, _∙_}
 use mathlib.Core.List.{List}
 use lib.Dec.{eqb}
 use borrow.Author.Tests.{eq-eqb, ne-eqb}
 use mathlib.Core.Bool.{Bool, true, false, cond}
-use Rattle.access.specs.Privileges.{levelNumber, levelOf}
 use Rattle.access.specs.Exceptions.{withBit}
-use Rattle.access.specs.declared.PrivilegeLevel.{PrivilegeLevel}
-use Rattle.access.specs.declared.PrivilegeLevel.the-variants.{Any, PL0, Special, Reserved}
 use Rattle.record.specs.Records.{recordOf, recordRefusal, recordAnswer}
 use Rattle.record.specs.declared.Record.{Record}
 use Rattle.record.specs.declared.RecordAnswer.{RecordAnswer}
-use Rattle.record.proofs.Laws.{answer-number, answer-read}
+use Rattle.record.proofs.Laws.{number-is, read-is}
 
 pub two-vectors : (p f : Bool) → withBit (withBit 0 13 p) 14 f ≡ cond p (2 ^ 13) 0 + cond f (2 ^ 14) 0
 unfolding withBit
@@ -22,23 +18,10 @@ two-vectors true false = refl
 two-vectors false true = refl
 two-vectors false false = refl
 
--- a level is that of its number
-pub level-back : (l : PrivilegeLevel) → levelOf (levelNumber l) ≡ l
-level-back Any = refl
-level-back PL0 = refl
-level-back Special = refl
-level-back Reserved = refl
-
 -- what a call answers of a record that was read: one answer where it is refused, and one by the record where it is not
 module _ {A : Type 0} (b : List ℕ) (r : RecordAnswer) (e : r ≡ recordAnswer b) (f : Record → A) (g : ℕ → A) where
-  number-is : r .number ≡ recordRefusal b
-  number-is = ap (λ (a : RecordAnswer). a .number) e ∙ answer-number b
-
   pub when-refused : (r .number ≡ 0 → ⊥) → g (r .number) ≡ cond (eqb (recordRefusal b) 0) (f (recordOf b)) (g (recordRefusal b))
-  when-refused ne = rw (← number-is, ne-eqb (r .number) 0 ne)
+  when-refused ne = rw (← number-is b e, ne-eqb (r .number) 0 ne)
 
   pub when-read : r .number ≡ 0 → f (r .read) ≡ cond (eqb (recordRefusal b) 0) (f (recordOf b)) (g (recordRefusal b))
-  when-read z =
-      let none : recordRefusal b ≡ 0 = sym number-is ∙ z in
-      let read : r .read ≡ recordOf b = ap (λ (a : RecordAnswer). a .read) e ∙ answer-read b none in
-      rw (read, eq-eqb (recordRefusal b) 0 none)
+  when-read z = rw (read-is b e z, eq-eqb (recordRefusal b) 0 (sym (number-is b e) ∙ z))

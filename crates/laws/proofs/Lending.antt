@@ -12,6 +12,7 @@ use mir.Val.{Fits}
 use mir.Syntax.{w64}
 use Rattle.laws.specs.Lists.{each, flat}
 use Rattle.laws.specs.Lending.{size, Logged, splice}
+use Rattle.laws.proofs.Lists.{each-append}
 
 -- the part of `mid` from n on, as the lender hands it over
 abbrev pub part : List ℕ → ℕ → List ℕ
@@ -50,14 +51,9 @@ pub stored : (xs old : List ℕ) (v : ℕ) {m : ℕ} → length xs ≡ m → m <
 stored xs old v {m} long h = rw (drop-cons old m 0 h, set-at xs (getD old m 0) (drop (suc m) old) v m long, add-one m, append-snoc xs v (drop (suc m) old))
 
 module _ {A : Type 0} (enc : A → List ℕ) where
-  pub each-append : (xs ys : List A) → each enc (xs ++ ys) ≡ each enc xs ++ each enc ys
-  unfolding each
-  each-append [] ys = refl
-  each-append (e ∷ xs) ys = ap (λ (l : List ℕ). enc e ++ l) (each-append xs ys) ∙ sym (append-assoc (enc e) _ _)
-
   pub size-append : (xs ys : List A) → size enc (xs ++ ys) ≡ size enc xs + size enc ys
   unfolding size
-  size-append xs ys = ap length (each-append xs ys) ∙ length-append (each enc xs) (each enc ys)
+  size-append xs ys = ap length (each-append enc xs ys) ∙ length-append (each enc xs) (each enc ys)
 
   -- the bytes of segments one after the other
   unfoldable pub sizes : List (List A) → ℕ

@@ -1,5 +1,7 @@
 -- The laws that every layer cites, one subject a file.
+pub mod Lists
 pub mod Lending
+pub mod OneByOne
 pub mod Every
 pub mod Span
 pub mod Choice

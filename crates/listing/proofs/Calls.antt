@@ -11,9 +11,9 @@ use Rattle.laws.specs.Tests.{firstOf}
 use Rattle.laws.specs.Lending.{size, Logged}
 use Rattle.laws.proofs.Choice.{first-here, first-later}
 use Rattle.laws.proofs.Lending.{part, back}
-use Rattle.record.specs.Records.{recordOf, recordRefusal, recordAnswer}
+use Rattle.record.specs.Records.{recordOf, recordAnswer}
 use Rattle.record.specs.declared.RecordAnswer.{RecordAnswer}
-use Rattle.record.proofs.Laws.{answer-number, answer-read}
+use Rattle.record.proofs.Laws.{number-is, read-is}
 use Rattle.record.specs.declared.Record.{Record}
 use Rattle.definition.specs.Behaviors.{fixedUp, complex}
 use Rattle.definition.specs.Refusals.{noRoom}
@@ -47,20 +47,17 @@ module _ (x : Record) (buffer : List ℕ) (start : ℕ) where
 
 -- of bytes: refused 1 or 2, refused 4, or as the record that they are
 module _ (b buffer : List ℕ) (start : ℕ) {r : RecordAnswer} (e : r ≡ recordAnswer b) where
-  number : r .number ≡ recordRefusal b
-  number = ap (λ (r : RecordAnswer). r .number) e ∙ answer-number b
-
   fixed : {x : Record} → r .number ≡ 0 → x ≡ fixedUp (r .read) → x ≡ fixedRecord b
-  fixed z f = f ∙ ap fixedUp (ap (λ (r : RecordAnswer). r .read) e ∙ answer-read b (sym number ∙ z))
+  fixed z f = f ∙ ap fixedUp (read-is b e z)
 
   pub turned-down : (r .number ≡ 0 → ⊥) → (Refused (r .number), buffer) ≡ listingCall b buffer start
   unfolding listingCall listingRefusal
   turned-down ne =
       sym
       (refused (recordOf b .opcode) (listingOf (fixedRecord b)) buffer start
-      (by-record b _ (λ z. ne (number ∙ z)) ∙ sym number)
+      (by-record b _ (λ z. ne (number-is b e ∙ z)) ∙ sym (number-is b e))
       ne
-      (λ z. never-complex b (sym number ∙ z)))
+      (λ z. never-complex b (sym (number-is b e) ∙ z)))
 
   pub complex-one : {x : Record} → r .number ≡ 0 → x ≡ fixedUp (r .read) → complex x ≡ true → (Complex (x .opcode), buffer) ≡ listingCall b buffer start
   unfolding listingCall listingRefusal fixedUp
@@ -68,11 +65,11 @@ module _ (b buffer : List ℕ) (start : ℕ) {r : RecordAnswer} (e : r ≡ recor
       rw (fixed z f)
       (sym
       (refused-complex (recordOf b .opcode) (listingOf (fixedRecord b)) buffer start
-      (past-record b _ (sym number ∙ z) ∙ first-here (complex (fixedRecord b)) 4 _ (rw (fixed z f) at h))))
+      (past-record b _ (sym (number-is b e) ∙ z) ∙ first-here (complex (fixedRecord b)) 4 _ (rw (fixed z f) at h))))
 
   pub by-room : {x : Record} → r .number ≡ 0 → x ≡ fixedUp (r .read) → complex x ≡ false → listedFrom x buffer start ≡ listingCall b buffer start
   unfolding listingCall listingRefusal listedFrom fixedUp
   by-room z f h =
       rw (fixed z f)
       (ap (λ (k : ℕ). outcome k (recordOf b .opcode) (listingOf (fixedRecord b)) buffer start)
-      (sym (past-record b _ (sym number ∙ z) ∙ first-later (complex (fixedRecord b)) 4 _ (rw (fixed z f) at h))))
+      (sym (past-record b _ (sym (number-is b e) ∙ z) ∙ first-later (complex (fixedRecord b)) 4 _ (rw (fixed z f) at h))))

@@ -1,4 +1,3 @@
 pub mod Writing
 pub mod Walking
-pub mod Loops
 pub mod Calls

@@ -13,7 +13,7 @@ use Rattle.laws.specs.Lists.{each, flat}
 use Rattle.laws.proofs.Choice.{either}
 use Rattle.access.specs.Accesses.{accessNumber, accessOf}
 use Rattle.access.specs.declared.Access.{Access}
-use Rattle.access.specs.declared.Access.the-variants.{None, Read, Write, ReadWrite}
+use Rattle.access.proofs.Laws.{access-back}
 use Rattle.digest.specs.Digests.{flagsAccess}
 use Rattle.implicit.specs.Lists.{entryAt}
 use Rattle.implicit.specs.declared.Entry.{Entry}
@@ -27,13 +27,6 @@ use Rattle.listing.specs.declared.AccessIter.{AccessIter}
 use Rattle.listing.specs.declared.Listed.{Listed}
 use Rattle.listing.specs.declared.Listed.the-variants.{Found, Finished}
 use Rattle.listing.specs.Cursors.{place, explicitItems, implicitItems, itemsFrom, firstIn, explicitNext, implicitNext, flagsNext, nextOf, itemsBy, Walked}
-
--- an access by its number
-pub access-of : (a : Access) → a ≡ accessOf (accessNumber a)
-access-of None = refl
-access-of Read = refl
-access-of Write = refl
-access-of ReadWrite = refl
 
 -- all items are left at the first place
 pub at-first : (x : Record) → itemsFrom x (place false 0) ≡ itemsOf x
@@ -143,7 +136,7 @@ pub flags-found :
     (x : Record) {a : Access} → accessNumber a ≡ flagsAccess (x .digest) → (accessNumber a ≡ 0 → ⊥)
     → flagsNext x ≡ Found (Flags a) (place false 1)
 unfolding flagsNext flagItems
-flags-found x {a} e ne = rw (← e, ne-eqb (accessNumber a) 0 ne, ← access-of a)
+flags-found x {a} e ne = rw (← e, ne-eqb (accessNumber a) 0 ne, access-back a)
 
 pub flags-none : (x : Record) → flagsAccess (x .digest) ≡ 0 → flagsNext x ≡ implicitNext x 0
 unfolding flagsNext flagItems

@@ -2,38 +2,18 @@
 use Prim.Native.Nat.{ℕ, _+_, _≤_, _<_}
 use native.Mathlib.Omega.{arith}
 use native.Mathlib.Numerals.{add-one}
-use mathlib.Core.Path.{_≡_, refl, sym, ap}
-use mathlib.Core.List.{List, [], _∷_, _++_, append-nil}
+use mathlib.Core.Path.{_≡_, refl, sym}
+use mathlib.Core.List.{List, [], _∷_, _++_}
 use lib.ListN.{length, drop, set, length-append}
 use Rattle.laws.specs.Words.{little}
-use Rattle.laws.specs.Lists.{each}
 use Rattle.laws.specs.Lending.{size, Logged}
 use Rattle.laws.proofs.Lending.{part, back, laid, stored, same-long}
+use Rattle.laws.proofs.OneByOne.{one-size, logged, unlogged}
 use Rattle.access.specs.Accesses.{accessNumber}
 use Rattle.access.specs.declared.Access.{Access}
 use Rattle.implicit.specs.declared.ImplicitOperand.{ImplicitOperand}
 use Rattle.definition.specs.declared.Item.the-variants.{Implicit}
 use Rattle.definition.specs.Listings.{operandBytes, itemBytes}
-
--- one thing's bytes at the front
-module _ {A : Type 0} (enc : A → List ℕ) (e : A) where
-  one : each enc (e ∷ []) ≡ enc e
-  unfolding each
-  one = append-nil (enc e)
-
-  pub one-size : size enc (e ∷ []) ≡ length (enc e)
-  unfolding size
-  one-size = ap length one
-
-  pub logged :
-      {old new : List ℕ} {n : ℕ}
-      → (n ≡ length (enc e)) × (new ≡ enc e ++ drop (length (enc e)) old) → Logged enc (e ∷ []) old new n
-  logged w = record { count = rw one (w .0); bytes = rw one (w .1) }
-
-  pub unlogged :
-      {old new : List ℕ} {n : ℕ}
-      → Logged enc (e ∷ []) old new n → (n ≡ length (enc e)) × (new ≡ enc e ++ drop (length (enc e)) old)
-  unlogged l = (rw one at (l .count), rw one at (l .bytes))
 
 -- an operand and its access behind it
 module _ (o : ImplicitOperand) (a : Access) where

@@ -1,7 +1,6 @@
 pub mod Refine
 pub mod Outcomes
 pub mod Demands
-pub mod RoundTrip
 pub mod Good
 pub mod Whole
 pub mod Unknown

@@ -3,30 +3,18 @@ use Prim.Native.Nat.{ℕ, _+_, _-_, _≤_}
 use native.Mathlib.Omega.{arith}
 use borrow.Author.Tests.{ltb-false, eqb-true}
 use mathlib.Core.Path.{_≡_, refl, sym, ap}
-use mathlib.Core.List.{List, [], _∷_, _++_, append-assoc}
+use mathlib.Core.List.{List, _++_, append-assoc}
 use mathlib.Core.Bool.{Bool, true, false, cond}
 use lib.ListN.{length, take, drop, length-append, length-take, length-drop}
 use lib.Seq.{take-at, drop-at}
 use lib.Dec.{ltb, eqb}
-use Rattle.laws.specs.Tests.{firstOf}
 use Rattle.laws.specs.Lending.{splice}
 use Rattle.laws.proofs.Choice.{or-left, or-right}
-use Rattle.laws.proofs.Every.{Every}
 use Rattle.definition.specs.Refusals.{noRoom}
 use Rattle.definition.specs.Visits.{outcome, numberOf, countOf}
 use Rattle.definition.specs.declared.Answer.{Answer}
 use Rattle.definition.specs.declared.Answer.the-variants.{Done, Refused, Complex}
 use Rattle.promises.specs.Calls.{Refusal, by-number, by-opcode, Written}
-
--- where the first of some tests gives 0, and none of their numbers is 0, none holds
-pub none-holds : (ts : List (Bool × ℕ)) → Every (λ t. t .1 ≡ 0 → ⊥) ts → firstOf ts ≡ 0 → Every (λ t. t .0 ≡ false) ts
-unfolding firstOf
-none-holds [] n e = tt
-none-holds (t ∷ ts) n e = go (t .0) refl (λ h. none-holds ts (n .1) h)
-  where
-    go : (b : Bool) → t .0 ≡ b → (firstOf ts ≡ 0 → Every (λ t. t .0 ≡ false) ts) → Every (λ t. t .0 ≡ false) (t ∷ ts)
-    go true h k = absurd (n .0 (rw h at e))
-    go false h k = (h, k (rw h at e))
 
 -- the two parts of an outcome, and the answers apart
 buffers : {a c : Answer} {p q : List ℕ} → _≡_ {A = Answer × List ℕ} (a, p) (c, q) → p ≡ q

@@ -19,8 +19,7 @@ use Rattle.definition.proofs.ListingBound.{listing-bytes}
 use Rattle.promises.specs.Promises as promised
 use Rattle.promises.proofs.Demands.{room-enough, by-refines, by-agrees}
 use Rattle.promises.proofs.Outcomes.{number-is, refused-is}
-use Rattle.promises.proofs.RoundTrip.{round-trip}
-use Rattle.promises.proofs.Whole.{visit-written, visit-reads, visit-reads-inside, listing-written}
+use Rattle.promises.proofs.Whole.{good-back, visit-written, visit-reads, visit-reads-inside, listing-written}
 use Rattle.promises.proofs.Unknown.{unknown-to, unknown-from}
 use Rattle.promises.proofs.Opened.{opened}
 use Rattle.promises.proofs.Tables as tables
@@ -118,7 +117,7 @@ only-the-log-changes b f p s n new =
     ((λ e. visit-written (not (isFile f)) b (fileOf f) p s n new e), (λ e. listing-written b p s n new e))
 
 pub events-read-back : promised.EventsReadBack
-events-read-back e l h a = round-trip e l h a
+events-read-back e l h a = good-back e l (h, a)
 
 pub logs-read-back : promised.LogsReadBack
 logs-read-back b f p s n new e =

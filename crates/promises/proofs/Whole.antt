@@ -1,15 +1,15 @@
 -- What a visit wrote reads back as its events, and all else in the buffer stays. Assumes nothing.
 use Prim.Native.Nat.{ℕ, _+_}
-use native.Mathlib.Omega.{arith}
 use native.Mathlib.Nat.{add-assoc, add-zero}
 use mathlib.Core.Path.{_≡_, sym, ap, _∙_}
 use mathlib.Core.List.{List, [], _∷_, _++_, append-assoc}
 use mathlib.Core.Bool.{Bool, false, not}
+use lib.Dec.{lit<}
 use lib.ListN.{length, take, drop, length-append, take-append-drop}
 use lib.Seq.{drop-drop, drop-append-seam}
 use Rattle.laws.specs.Lists.{each}
 use Rattle.laws.specs.Lending.{splice}
-use Rattle.laws.proofs.Every.{Every}
+use Rattle.laws.proofs.Every.{Every, first-zero}
 use Rattle.registers.specs.Files.{fileOf, isFile}
 use Rattle.registers.specs.declared.RegisterFile.{RegisterFile}
 use Rattle.record.specs.Records.{isRecord, recordOf, outside}
@@ -18,23 +18,23 @@ use Rattle.definition.specs.Logs.{eventBytes, bytesOf}
 use Rattle.definition.specs.Refusals.{nameless, sizeless, noRoom}
 use Rattle.definition.specs.Visits.{fixedRecord, logOf, refusalOf, visitBy, visitOf}
 use Rattle.definition.specs.Listings.{listingOf, listingRefusal, listingCall}
-use Rattle.definition.specs.Readings.{readFront, placed, readAt, Reads, end, next}
+use Rattle.definition.specs.Readings.{readFront, placed, readAt, Reads}
 use Rattle.definition.specs.declared.Answer.{Answer}
 use Rattle.definition.specs.declared.Answer.the-variants.{Done}
 use Rattle.definition.specs.declared.Event.{Event}
 use Rattle.definition.specs.declared.Reading.the-variants.{Found}
+use Rattle.definition.proofs.RoundTrip.{round-trip, log-round-trip}
 use Rattle.promises.specs.Calls.{Written, ReadsFrom, stop, step}
-use Rattle.promises.proofs.Outcomes.{none-holds, done-is, spliced}
-use Rattle.promises.proofs.RoundTrip.{round-trip}
+use Rattle.promises.proofs.Outcomes.{done-is, spliced}
 use Rattle.promises.proofs.Good.{GoodEvent, fixed-sound, events-good}
+
+-- a good event reads back, whatever stands behind it
+pub good-back : (e : Event) (l : List ℕ) → GoodEvent e → readFront (eventBytes e ++ l) ≡ Found e (length (eventBytes e))
+good-back e l g = round-trip GoodEvent (λ e g. g .0) (λ a n g. g .1) (λ a n g. g .1) e l g
 
 -- good events read back from their bytes alone
 reads-bytes : (es : List Event) → Every GoodEvent es → Reads (bytesOf es) es
-unfolding each
-reads-bytes [] g = end
-reads-bytes (e ∷ es) g =
-    next {es = es} (length (eventBytes e)) (round-trip e (bytesOf es) (g .0 .0) (g .0 .1))
-    (rw (drop-append-seam (eventBytes e) (bytesOf es)) (reads-bytes es (g .1)))
+reads-bytes es g = log-round-trip GoodEvent (λ e g. g .0) (λ a n g. g .1) (λ a n g. g .1) es g
 
 found-at : (e : Event) (l : List ℕ) (at : ℕ) → readFront (drop at l) ≡ Found e (length (eventBytes e)) → readAt l at ≡ Found e (at + length (eventBytes e))
 unfolding readAt
@@ -48,7 +48,7 @@ unfolding each
 reads-inside [] l rest at h g = rw (add-zero at) stop
 reads-inside (e ∷ es) l rest at h g =
     let h′ : drop at l ≡ eventBytes e ++ (bytesOf es ++ rest) = h ∙ append-assoc (eventBytes e) (bytesOf es) rest in
-    let r : readFront (drop at l) ≡ Found e (length (eventBytes e)) = rw h′ (round-trip e (bytesOf es ++ rest) (g .0 .0) (g .0 .1)) in
+    let r : readFront (drop at l) ≡ Found e (length (eventBytes e)) = rw h′ (good-back e (bytesOf es ++ rest) (g .0)) in
     let d : drop (at + length (eventBytes e)) l ≡ bytesOf es ++ rest =
     sym (drop-drop (length (eventBytes e)) at l) ∙ rw h′ (drop-append-seam (eventBytes e) (bytesOf es ++ rest)) in
     rw (length-append (eventBytes e) (bytesOf es), ← add-assoc at (length (eventBytes e)) (length (bytesOf es)))
@@ -73,10 +73,7 @@ module _ (bad : Bool) (b : List ℕ) (f : RegisterFile) (p : List ℕ) (s n : �
 
   visit-tests : Every (λ t. t .0 ≡ false) tests
   unfolding refusalOf
-  visit-tests =
-      none-holds tests
-      ((λ e. omega arith), ((λ e. omega arith), ((λ e. omega arith), ((λ e. omega arith), ((λ e. omega arith), ((λ e. omega arith), ((λ e. omega arith), tt)))))))
-      (visit-done .0)
+  visit-tests = first-zero tests (lit< tt, (lit< tt, (lit< tt, (lit< tt, (lit< tt, (lit< tt, (lit< tt, tt))))))) (visit-done .0)
 
   pub visit-written : Written (bytesOf (logOf b f)) p new s n
   visit-written = rw (visit-done .1, visit-done .2) (spliced (bytesOf (logOf b f)) p s (visit-tests .1 .1 .1 .1 .1 .1 .0))
@@ -111,8 +108,7 @@ module _ (b p : List ℕ) (s n : ℕ) (new : List ℕ) (done : listingCall b p s
 
   listing-tested : Every (λ t. t .0 ≡ false) listing-tests
   unfolding listingRefusal
-  listing-tested =
-      none-holds listing-tests ((λ e. omega arith), ((λ e. omega arith), ((λ e. omega arith), ((λ e. omega arith), tt)))) (listing-done .0)
+  listing-tested = first-zero listing-tests (lit< tt, (lit< tt, (lit< tt, (lit< tt, tt)))) (listing-done .0)
 
   pub listing-written : Written (listingOf (fixedRecord b)) p new s n
   listing-written = rw (listing-done .1, listing-done .2) (spliced (listingOf (fixedRecord b)) p s (listing-tested .1 .1 .1 .0))

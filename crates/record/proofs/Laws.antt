@@ -1,6 +1,6 @@
 -- What a record that is not refused keeps to, for those who call. Assumes nothing.
 use Prim.Native.Nat.{ℕ, _≤_}
-use mathlib.Core.Path.{_≡_, refl, sym}
+use mathlib.Core.Path.{_≡_, refl, sym, ap, _∙_}
 use mathlib.Core.List.{List, [], _∷_}
 use mathlib.Core.Bool.{Bool, true, false, not, cond, _||_, or-assoc, or-false}
 use lib.ListN.{length, getD}
@@ -85,3 +85,11 @@ answer-number b = by (eqb (recordRefusal b) 0) refl
 pub answer-read : (b : List ℕ) → recordRefusal b ≡ 0 → recordAnswer b .read ≡ recordOf b
 unfolding recordAnswer
 answer-read b e = rw e
+
+-- the same of what a call was answered
+module _ (b : List ℕ) {r : RecordAnswer} (e : r ≡ recordAnswer b) where
+  pub number-is : r .number ≡ recordRefusal b
+  number-is = ap (λ (a : RecordAnswer). a .number) e ∙ answer-number b
+
+  pub read-is : r .number ≡ 0 → r .read ≡ recordOf b
+  read-is z = ap (λ (a : RecordAnswer). a .read) e ∙ answer-read b (sym number-is ∙ z)

@@ -1,9 +1,9 @@
 -- Events that are those of steps: registers that are read or written, for which no register file is asked. Assumes nothing.
 use Prim.Native.Nat.{ℕ, _≤_}
-use mathlib.Core.Path.{_≡_, refl, sym, ap, _∙_}
+use mathlib.Core.Path.{_≡_, refl, ap}
 use mathlib.Core.Bool.{Bool, true, false, cond}
-use mathlib.Core.List.{List, [], _∷_, _++_, map, append-assoc, append-nil}
-use Rattle.laws.specs.Lists.{each, flat}
+use mathlib.Core.List.{List, [], _∷_, map}
+use Rattle.laws.specs.Lists.{each}
 use Rattle.laws.specs.Lending.{size, Logged}
 use Rattle.registers.specs.declared.RegSpec.{RegSpec}
 use Rattle.registers.specs.declared.RegisterFile.{RegisterFile}
@@ -25,12 +25,6 @@ pub as-events :
     (f : RegisterFile) (ss : List Step) {es : List Event} {k : ℕ}
     → eventsOf f ss ≡ es → size (stepBytes f) ss ≤ k → size eventBytes es ≤ k
 as-events f ss e h = rw (steps-size f ss, e) at h
-
-pub each-append : {A B : Type 0} (g : A → List B) (xs ys : List A) → each g (xs ++ ys) ≡ each g xs ++ each g ys
-unfolding each
-each-append g [] ys = refl
-each-append g (x ∷ xs) ys =
-    ap (λ (l : List _). g x ++ l) (each-append g xs ys) ∙ sym (append-assoc (g x) (each g xs) (each g ys))
 
 -- registers, one after the other
 one-move : (f : RegisterFile) (w : Way) (y : RegSpec) → stepEvents f (moves w y) ≡ moveEvent w y ∷ []

@@ -19,7 +19,8 @@ use Rattle.definition.specs.declared.Shape.the-variants.{Nothing, Register, Fou
 use Rattle.definition.specs.declared.Event.{Event}
 use Rattle.moves.specs.Moves.{moved, registerRead, maskedWrite, registerWrite, registerOperand}
 use Rattle.steps.specs.Touches.{memorySteps, memoryOperand}
-use Rattle.steps.proofs.Events.{each-append, events-moved}
+use Rattle.laws.proofs.Lists.{each-append}
+use Rattle.steps.proofs.Events.{events-moved}
 
 -- the parts of a register
 read-part :

@@ -19,7 +19,7 @@ use Rattle.definition.specs.Steps.{stepsOf}
 use Rattle.definition.specs.Logs.{stepBytes}
 use Rattle.definition.specs.Refusals.{nameless, sizeless}
 use Rattle.definition.specs.declared.Answer.the-variants.{Done, Refused, Complex}
-use Rattle.definition.proofs.Bytes.{steps-bytes}
+use Rattle.definition.proofs.Events.{steps-bytes}
 use Rattle.definition.proofs.Bounds.{log-bytes}
 use Rattle.definition.proofs.Outcomes.{refused, refused-complex, lent-room, written}
 use Rattle.visiting.specs.Records.{logBytes, isFull, firstRefusal, refusalIn, visitRecord}

@@ -4,12 +4,13 @@ use Prim.Native.Nat.{ℕ}
 use mathlib.Core.Path.{_≡_, sym, ap, _∙_}
 use denote.Ref.{now}
 use Rattle.access.specs.Privileges.{levelOf}
+use Rattle.access.proofs.Laws.{level-back}
 use Rattle.access.specs.declared.PrivilegeLevel.the-variants.{Any}
 use Rattle.digest.specs.Digests.{privilegeOf}
 use Rattle.record.specs.declared.Record.{Record}
 use Rattle.definition.specs.Behaviors.{digestOf, privilegeCall}
 use Rattle.definition.specs.declared.PrivilegeAnswer.{PrivilegeAnswer}
-use Rattle.fixups.proofs.Answers.{when-refused, when-read, level-back}
+use Rattle.fixups.proofs.Answers.{when-refused, when-read}
 use Rattle.fixups.proofs.privilege_answer.Statement.{statement}
 use Rattle.fixups.proofs.privilege_answer.Tie as tie
 

@@ -1,4 +1,4 @@
-use Rattle.registers.proofs.Tables.{past-all}
+use Rattle.laws.proofs.Keys.{past-all}
 use Rattle.registers.specs.Banks.{loggedNumbers}
 use lib.ListN.{List·getD-eq-default}
 use mathlib.Core.Path.{sym}

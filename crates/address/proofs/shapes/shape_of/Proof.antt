@@ -4,9 +4,9 @@ use mathlib.Core.Path.{_≡_, refl, sym}
 use mathlib.Core.Bool.{true}
 use lib.ListN.{List·getD-eq-default}
 use Rattle.laws.proofs.Span.{span, past}
+use Rattle.laws.proofs.Keys.{past-keys}
 use Rattle.definition.specs.Tables.{shapes, shapeOf}
 use Rattle.definition.specs.declared.Shape.the-variants.{Nothing, Register, Immediate}
-use Rattle.address.proofs.Keys.{past-keys}
 use Rattle.address.proofs.shapes.shape_of.Statement.{statement}
 use Rattle.address.proofs.shapes.shape_of.Tie as tie
 

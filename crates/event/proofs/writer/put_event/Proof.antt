@@ -5,7 +5,7 @@ use Rattle.laws.specs.Lending.{size}
 use Rattle.laws.specs.Lists.{each}
 use Rattle.definition.specs.declared.Event.the-variants.{RegisterRead, RegisterWrite, MemoryRead, MemoryWrite, UnknownRead, UnknownWrite}
 use Rattle.definition.specs.Logs.{eventBytes}
-use Rattle.event.proofs.Writing.{logged}
+use Rattle.laws.proofs.OneByOne.{logged}
 use Rattle.event.proofs.writer.put_event.Statement.{statement}
 use Rattle.event.proofs.writer.put_event.Tie as tie
 
@@ -56,42 +56,42 @@ same-length c = search needs
 
 returns : tie.Need-returns
 unfolding eventBytes
-returns c = rw (c .before .before .before .before .before .e .given .1) (logged (RegisterRead _) (c .before .before .put-register .ensures))
+returns c = rw (c .before .before .before .before .before .e .given .1) (logged eventBytes (RegisterRead _) (c .before .before .put-register .ensures))
 
 same-length-2 : tie.Need-same-length-2
 same-length-2 c = search needs
 
 returns-2 : tie.Need-returns-2
 unfolding eventBytes
-returns-2 c = rw (c .before .before .before .before .before .e2 .given .1) (logged (RegisterWrite _) (c .before .before .put-register2 .ensures))
+returns-2 c = rw (c .before .before .before .before .before .e2 .given .1) (logged eventBytes (RegisterWrite _) (c .before .before .put-register2 .ensures))
 
 same-length-3 : tie.Need-same-length-3
 same-length-3 c = search needs
 
 returns-3 : tie.Need-returns-3
 unfolding eventBytes little
-returns-3 c = rw (c .before .before .before .before .before .e3 .given .1) (logged (MemoryRead _ _) (c .before .before .put-known .ensures))
+returns-3 c = rw (c .before .before .before .before .before .e3 .given .1) (logged eventBytes (MemoryRead _ _) (c .before .before .put-known .ensures))
 
 same-length-4 : tie.Need-same-length-4
 same-length-4 c = search needs
 
 returns-4 : tie.Need-returns-4
 unfolding eventBytes little
-returns-4 c = rw (c .before .before .before .before .before .e4 .given .1) (logged (MemoryWrite _ _) (c .before .before .put-known2 .ensures))
+returns-4 c = rw (c .before .before .before .before .before .e4 .given .1) (logged eventBytes (MemoryWrite _ _) (c .before .before .put-known2 .ensures))
 
 same-length-5 : tie.Need-same-length-5
 same-length-5 c = search needs
 
 returns-5 : tie.Need-returns-5
 unfolding eventBytes
-returns-5 c = rw (c .before .before .before .before .before .e5 .given .1) (logged (UnknownRead _) (c .before .before .put-unknown .ensures))
+returns-5 c = rw (c .before .before .before .before .before .e5 .given .1) (logged eventBytes (UnknownRead _) (c .before .before .put-unknown .ensures))
 
 same-length-6 : tie.Need-same-length-6
 same-length-6 c = search needs
 
 returns-6 : tie.Need-returns-6
 unfolding eventBytes
-returns-6 c = rw (c .before .before .before .before .before .e6 .given .1) (logged (UnknownWrite _) (c .before .before .put-unknown2 .ensures))
+returns-6 c = rw (c .before .before .before .before .before .e6 .given .1) (logged eventBytes (UnknownWrite _) (c .before .before .put-unknown2 .ensures))
 
 pub put-event-spec : {M : Type 1} → statement M
 put-event-spec =

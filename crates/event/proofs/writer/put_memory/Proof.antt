@@ -5,7 +5,7 @@ use Rattle.laws.specs.Lending.{size}
 use Rattle.laws.specs.Lists.{each}
 use Rattle.definition.specs.declared.Event.the-variants.{MemoryRead, MemoryWrite, UnknownRead, UnknownWrite}
 use Rattle.definition.specs.Logs.{eventBytes, memoryEvent}
-use Rattle.event.proofs.Writing.{logged}
+use Rattle.laws.proofs.OneByOne.{logged}
 use Rattle.event.proofs.writer.put_memory.Statement.{statement}
 use Rattle.event.proofs.writer.put_memory.Tie as tie
 
@@ -48,28 +48,28 @@ same-length c = search needs
 
 returns : tie.Need-returns
 unfolding eventBytes memoryEvent little
-returns c = rw (c .before .before .before .before .before .before .before .enum-told .given .1, c .before .before .before .before .before .at .given .1) (logged (MemoryRead _ _) (c .before .before .put-known .ensures))
+returns c = rw (c .before .before .before .before .before .before .before .enum-told .given .1, c .before .before .before .before .before .at .given .1) (logged eventBytes (MemoryRead _ _) (c .before .before .put-known .ensures))
 
 same-length-2 : tie.Need-same-length-2
 same-length-2 c = search needs
 
 returns-2 : tie.Need-returns-2
 unfolding eventBytes memoryEvent
-returns-2 c = rw (c .before .before .before .before .before .before .enum-told .given .1, c .before .before .before .before .enum-told2 .given .1) (logged (UnknownRead _) (c .before .before .put-unknown .ensures))
+returns-2 c = rw (c .before .before .before .before .before .before .enum-told .given .1, c .before .before .before .before .enum-told2 .given .1) (logged eventBytes (UnknownRead _) (c .before .before .put-unknown .ensures))
 
 same-length-3 : tie.Need-same-length-3
 same-length-3 c = search needs
 
 returns-3 : tie.Need-returns-3
 unfolding eventBytes memoryEvent little
-returns-3 c = rw (c .before .before .before .before .before .before .before .enum-told3 .given .1, c .before .before .before .before .before .at2 .given .1) (logged (MemoryWrite _ _) (c .before .before .put-known2 .ensures))
+returns-3 c = rw (c .before .before .before .before .before .before .before .enum-told3 .given .1, c .before .before .before .before .before .at2 .given .1) (logged eventBytes (MemoryWrite _ _) (c .before .before .put-known2 .ensures))
 
 same-length-4 : tie.Need-same-length-4
 same-length-4 c = search needs
 
 returns-4 : tie.Need-returns-4
 unfolding eventBytes memoryEvent
-returns-4 c = rw (c .before .before .before .before .before .before .enum-told3 .given .1, c .before .before .before .before .enum-told4 .given .1) (logged (UnknownWrite _) (c .before .before .put-unknown2 .ensures))
+returns-4 c = rw (c .before .before .before .before .before .before .enum-told3 .given .1, c .before .before .before .before .enum-told4 .given .1) (logged eventBytes (UnknownWrite _) (c .before .before .put-unknown2 .ensures))
 
 pub put-memory-spec : {M : Type 1} → statement M
 put-memory-spec =

@@ -4,7 +4,7 @@ use Rattle.laws.specs.Lending.{size}
 use Rattle.laws.specs.Lists.{each}
 use Rattle.definition.specs.declared.Event.the-variants.{RegisterRead}
 use Rattle.definition.specs.Logs.{eventBytes}
-use Rattle.event.proofs.Writing.{logged}
+use Rattle.laws.proofs.OneByOne.{logged}
 use Rattle.event.proofs.writer.put_register_read.Statement.{statement}
 use Rattle.event.proofs.writer.put_register_read.Tie as tie
 
@@ -17,7 +17,7 @@ same-length c = search needs
 
 returns : tie.Need-returns
 unfolding eventBytes
-returns c = logged (RegisterRead (c .before .before .before .before .before .args .y)) (c .before .before .put-register .ensures)
+returns c = logged eventBytes (RegisterRead (c .before .before .before .before .before .args .y)) (c .before .before .put-register .ensures)
 
 pub put-register-read-spec : {M : Type 1} → statement M
 put-register-read-spec = tie.close (tie.spec put-register-requires same-length returns)

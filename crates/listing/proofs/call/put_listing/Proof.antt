@@ -1,4 +1,4 @@
-use Rattle.listing.proofs.Loops.{begins, one-more, no-more}
+use Rattle.laws.proofs.OneByOne.{begins, one-more, no-more}
 use Rattle.listing.proofs.Walking.{at-first}
 use Rattle.listing.specs.Cursors.{itemsFrom, itemsBy}
 use Rattle.definition.specs.Listings.{itemsOf, itemBytes}

@@ -2,7 +2,7 @@ use Rattle.laws.specs.Lists.{each}
 use Rattle.laws.specs.Lending.{size}
 use Rattle.definition.specs.Listings.{itemBytes}
 use Rattle.definition.specs.declared.Item.the-variants.{Flags, Explicit}
-use Rattle.listing.proofs.Writing.{logged}
+use Rattle.laws.proofs.OneByOne.{logged}
 use borrow.Author.Needs.{needs}
 use Rattle.listing.proofs.items.put_item.Statement.{statement}
 use Rattle.listing.proofs.items.put_item.Tie as tie

@@ -3,7 +3,7 @@ use Rattle.laws.specs.Lending.{size}
 use Rattle.laws.specs.Words.{little}
 use Rattle.definition.specs.Listings.{operandBytes}
 use Rattle.implicit.specs.declared.ImplicitOperand.the-variants.{Register, MemDeref, Disp, MemBaseIndexScale}
-use Rattle.listing.proofs.Writing.{logged}
+use Rattle.laws.proofs.OneByOne.{logged}
 use borrow.Author.Needs.{needs}
 use Rattle.listing.proofs.items.put_operand.Statement.{statement}
 use Rattle.listing.proofs.items.put_operand.Tie as tie

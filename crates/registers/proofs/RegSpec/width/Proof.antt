@@ -1,5 +1,5 @@
 use borrow.Author.Needs.{needs}
-use Rattle.registers.proofs.Tables.{past-all}
+use Rattle.laws.proofs.Keys.{past-all}
 use Rattle.registers.specs.Banks.{bankWidths, widthOf}
 use lib.ListN.{List·getD-eq-default}
 use mathlib.Core.Path.{sym}

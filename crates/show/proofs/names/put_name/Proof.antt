@@ -1,7 +1,7 @@
 -- An arm for each bank of the table. Assumes nothing.
 use borrow.Author.Needs.{needs}
 use Rattle.laws.proofs.Lending.{silent}
-use Rattle.registers.proofs.Tables.{past-all}
+use Rattle.laws.proofs.Keys.{past-all}
 use Rattle.show.specs.Ascii.{ascii}
 use Rattle.show.specs.Words.{names, wordBytes}
 use Rattle.show.proofs.Cells.{name-0, name-1, name-2, name-3, name-4, name-of, no-name}

@@ -11,7 +11,7 @@ use Rattle.implicit.specs.Lists.{implicitOf}
 use Rattle.implicit.proofs.Laws.{none-at-0, at-most-four, told-by-tag, step, stop}
 use Rattle.definition.specs.Steps.{entrySteps}
 use Rattle.definition.specs.Logs.{stepBytes}
-use Rattle.definition.proofs.Operands.{each-flat}
+use Rattle.laws.proofs.Lists.{each-flat}
 use Rattle.registers.specs.Files.{fileWith}
 use Rattle.steps.proofs.entries.put_entries.Statement.{statement}
 use Rattle.steps.proofs.entries.put_entries.Tie as tie

@@ -9,7 +9,8 @@ use Rattle.laws.proofs.Lending.{Going, start, next, inside, fits, ends, whole, 
 use Rattle.definition.specs.Behaviors.{operandAt, operandsOf}
 use Rattle.definition.specs.Steps.{operandSteps}
 use Rattle.definition.specs.Logs.{stepBytes}
-use Rattle.definition.proofs.Operands.{each-flat, operand-step}
+use Rattle.laws.proofs.Lists.{each-flat}
+use Rattle.definition.proofs.Operands.{operand-step}
 use Rattle.registers.specs.Files.{fileWith}
 use Rattle.steps.proofs.operands.put_operands.Statement.{statement}
 use Rattle.steps.proofs.operands.put_operands.Tie as tie
