@@ -222,9 +222,9 @@ log-bytes f x =
     )
 
 -- the same, as the room that the steps of a log need
-pub steps-size : (f : RegisterFile) (x : Record) → size (stepBytes f) (stepsOf x) ≤ mostBytes
+pub steps-fit : (f : RegisterFile) (x : Record) → size (stepBytes f) (stepsOf x) ≤ mostBytes
 unfolding size
-steps-size f x = rw (steps-bytes f (stepsOf x)) (log-bytes f x)
+steps-fit f x = rw (steps-bytes f (stepsOf x)) (log-bytes f x)
 
 -- 4 events of a list, 2 of flags, 4 of each part of four operands
 pub log-events : (f : RegisterFile) (x : Record) → length (eventsOf f (stepsOf x)) ≤ mostEvents

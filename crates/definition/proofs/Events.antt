@@ -32,9 +32,3 @@ pub step-logged :
     → Logged eventBytes (stepEvents f s) old new n → Logged (stepBytes f) (s ∷ []) old new n
 unfolding stepBytes
 step-logged f s l = logged (stepBytes f) s (l .count, l .bytes)
-
--- the steps are written, and so their events are
-pub steps-logged :
-    (f : RegisterFile) (ss : List Step) {old new : List ℕ} {n : ℕ}
-    → Logged (stepBytes f) ss old new n → Logged eventBytes (eventsOf f ss) old new n
-steps-logged f ss l = record { count = rw (steps-bytes f ss) at (l .count); bytes = rw (steps-bytes f ss) at (l .bytes) }

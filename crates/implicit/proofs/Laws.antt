@@ -31,11 +31,6 @@ told-by-tag (Operand o way) t = refl
 told-by-tag (Slot n way) t = refl
 told-by-tag End t = absurd (⊎-elim (λ e. omega arith) (λ e. omega arith) t)
 
-told : (e : Entry) → (e ≡ End → ⊥) → isEnd e ≡ false
-told (Operand o way) ne = refl
-told (Slot n way) ne = refl
-told End ne = absurd (ne refl)
-
 -- no list is longer than four, and none holds an `End`: two tests of all of them
 pub at-most-four : (l : ℕ) → length (implicitOf l) ≤ 4
 unfolding implicitOf
@@ -76,16 +71,6 @@ end-past l i p = leb-true _ _ (sym (ends l i) ∙ ap isEnd p)
 pub stands : (l i : ℕ) {e : Entry} → entryAt l i ≡ e → isEnd e ≡ false → i < length (implicitOf l)
 stands l i p q = leb-false _ _ (sym (ends l i) ∙ ap isEnd p ∙ q)
 
--- and it is entry i, whatever is asked for past the last
-pub standing : (l i : ℕ) (d : Entry) → i < length (implicitOf l) → entryAt l i ≡ getD (implicitOf l) i d
-unfolding entryAt
-standing l i d h = same (implicitOf l) i h
-  where
-    same : (es : List Entry) (i : ℕ) → i < length es → getD es i End ≡ getD es i d
-    same [] i h = absurd (not-suc-le-zero h)
-    same (e ∷ es) zero h = refl
-    same (e ∷ es) (suc i) h = same es i (le-of-suc-le-suc h)
-
 pub below-four : (l i : ℕ) {e : Entry} → entryAt l i ≡ e → isEnd e ≡ false → i < 4
 below-four l i p q = omega (arith, stands l i p q, at-most-four l)
 
@@ -96,9 +81,6 @@ cons l i h = rw (add-one i) (drop-cons (implicitOf l) i End h)
 -- a step of the walk: an entry, by its test or by its difference from `End`; and the end of the walk
 pub step : (l i : ℕ) {e : Entry} → entryAt l i ≡ e → isEnd e ≡ false → drop i (implicitOf l) ≡ e ∷ drop (i + 1) (implicitOf l)
 step l i p q = rw p at (cons l i (stands l i p q))
-
-pub step-on : (l i : ℕ) → (entryAt l i ≡ End → ⊥) → drop i (implicitOf l) ≡ entryAt l i ∷ drop (i + 1) (implicitOf l)
-step-on l i ne = step l i refl (told (entryAt l i) ne)
 
 pub stop : (l i : ℕ) → entryAt l i ≡ End → drop i (implicitOf l) ≡ []
 stop l i p = drop-of-length-le (implicitOf l) (end-past l i p)

@@ -1,12 +1,12 @@
 -- Numbers in bytes: laws over the width, which 2, 4 and 8 bytes cite. Assumes nothing.
-use Prim.Native.Nat.{ℕ, zero, suc, _+_, _*_, _^_, _/_, _%_, _<_, _≤_}
+use Prim.Native.Nat.{ℕ, zero, suc, _+_, _*_, _^_, _/_, _%_, _<_}
 use native.Mathlib.Omega.{arith}
 use native.Mathlib.Nat.{add-zero, zero-add, suc-add, add-assoc, mul-assoc, pow-suc, pow-succ', one-le-pow, div-div-eq-div-mul, div-one, mod-one, mod-eq-of-lt}
 use mathlib.Core.Path.{_≡_, refl, ap}
 use mathlib.Core.List.{List, [], _∷_, _++_}
 use lib.Arith.{mod-mul, digits-div, digits-mod}
-use lib.ListN.{length, getD, take, drop}
-use lib.Seq.{getD-take, getD-drop, getD-append-add}
+use lib.ListN.{length, getD}
+use lib.Seq.{getD-append-add}
 use Rattle.laws.specs.Words.{numberAt, little}
 
 -- the m bytes from a place on, and the n bytes behind them
@@ -26,18 +26,6 @@ pub number-below : (b : List ℕ) → ((k : ℕ) → getD b k 0 < 256) → (i n 
 unfolding numberAt
 number-below b h i zero = omega arith
 number-below b h i (suc n) = rw (pow-succ' 256 n) (omega (arith, h i, number-below b h (i + 1) n))
-
--- a number in what is left of the bytes past the first k
-pub number-drop : (k : ℕ) (b : List ℕ) (i n : ℕ) → numberAt (drop k b) i n ≡ numberAt b (k + i) n
-unfolding numberAt
-number-drop k b i zero = refl
-number-drop k b i (suc n) = rw (getD-drop k b i 0, number-drop k b (i + 1) n, add-assoc k i 1)
-
--- a number in the first k bytes
-pub number-take : (k : ℕ) (b : List ℕ) (i n : ℕ) → i + n ≤ k → numberAt (take k b) i n ≡ numberAt b i n
-unfolding numberAt
-number-take k b i zero h = refl
-number-take k b i (suc n) h = rw (getD-take k b i 0 (omega arith), number-take k b (i + 1) n (omega arith))
 
 -- a number behind other bytes
 pub number-behind : (pre b : List ℕ) (i n : ℕ) → numberAt (pre ++ b) (length pre + i) n ≡ numberAt b i n

@@ -12,7 +12,7 @@ use Rattle.registers.specs.declared.FileAnswer.{FileAnswer}
 use Rattle.registers.proofs.Answers.{file-number, file-read}
 use Rattle.record.specs.Records.{recordOf, recordRefusal, recordAnswer}
 use Rattle.record.specs.declared.RecordAnswer.{RecordAnswer}
-use Rattle.record.proofs.Laws.{answer-number, answer-read}
+use Rattle.record.proofs.Laws.{number-is, read-is}
 use Rattle.definition.specs.Behaviors.{fixedUp, complex}
 use Rattle.definition.specs.Logs.{bytesOf}
 use Rattle.definition.specs.Refusals.{nameless, sizeless, noRoom}
@@ -54,17 +54,11 @@ module _ (b : List ℕ) (f : RegisterFile) (buffer : List ℕ) (start : ℕ) whe
 
 -- The same by what was read of the record
 module _ (b : List ℕ) (r : RecordAnswer) (e : r ≡ recordAnswer b) (buffer : List ℕ) (start : ℕ) where
-  number-is : r .number ≡ recordRefusal b
-  number-is = ap (λ (a : RecordAnswer). a .number) e ∙ answer-number b
-
-  read-is : r .number ≡ 0 → r .read ≡ recordOf b
-  read-is z = ap (λ (a : RecordAnswer). a .read) e ∙ answer-read b (sym number-is ∙ z)
-
   pub bad-record : (bad : Bool) (f : RegisterFile) → (r .number ≡ 0 → ⊥) → (Refused (r .number), buffer) ≡ visitBy bad b f buffer start
-  bad-record bad f ne = rw number-is (sym (record-refuses b f buffer start bad (rw number-is at ne)))
+  bad-record bad f ne = rw (number-is b e) (sym (record-refuses b f buffer start bad (rw (number-is b e) at ne)))
 
   pub visited : (f : RegisterFile) → r .number ≡ 0 → visitRecord (fixedUp (r .read)) f buffer start ≡ visitBy false b f buffer start
-  visited f z = rw (read-is z) (sym (both-pass b f buffer start (sym number-is ∙ z)))
+  visited f z = rw (read-is b e z) (sym (both-pass b f buffer start (sym (number-is b e) ∙ z)))
 
 -- and of the file
 module _
@@ -79,7 +73,7 @@ module _
       where
         by : (t : Bool) → g .number ≡ cond t 0 3 → (Refused (g .number), buffer) ≡ visitBy (not t) b (fileOf file) buffer start
         by true k = absurd (ne k)
-        by false k = rw k (sym (file-refuses b (fileOf file) buffer start (sym (number-is b r e buffer start) ∙ z)))
+        by false k = rw k (sym (file-refuses b (fileOf file) buffer start (sym (number-is b e) ∙ z)))
 
     pub visited-under : g .number ≡ 0 → visitRecord (fixedUp (r .read)) (g .file) buffer start ≡ visitBy (not (isFile file)) b (fileOf file) buffer start
     visited-under k = by (isFile file) refl

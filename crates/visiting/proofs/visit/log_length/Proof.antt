@@ -1,4 +1,5 @@
-use Rattle.visiting.proofs.Visits.{bytes-are, size-is, at-most}
+use Rattle.definition.proofs.Bounds.{steps-fit}
+use Rattle.visiting.proofs.Visits.{bytes-are}
 use mathlib.Core.Path.{ap, _∙_}
 use lib.ListN.{length}
 use borrow.Author.Needs.{needs}
@@ -11,7 +12,7 @@ slice-aggregate-put-log : tie.Need-slice-aggregate-put-log
 slice-aggregate-put-log c = search needs
 
 put-log-requires : tie.Need-put-log-requires
-put-log-requires c κs = rw (size-is (c .before .args .x) (fileWith (now (c .before .args .values)) (c .before .args .known))) (at-most (c .before .args .x) (fileWith (now (c .before .args .values)) (c .before .args .known)))
+put-log-requires c κs = let a = c .before .args in steps-fit (fileWith (now (a .values)) (a .known)) (a .x)
 
 returns : tie.Need-returns
 returns c = let a = c .before .before .before .args in c .before .put-log .ensures .count ∙ ap length (bytes-are (a .x) (fileWith (now (a .values)) (a .known)))
