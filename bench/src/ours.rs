@@ -1,16 +1,5 @@
 //! The library, through its C interface.
-
-extern "C" {
-    fn machhurel_visit(
-        record: *const u8,
-        record_len: usize,
-        file: *const u8,
-        file_len: usize,
-        log: *mut u8,
-        log_len: usize,
-        start: usize,
-    ) -> u64;
-}
+use machhurel::ffi::machhurel_visit;
 
 /// The log's length; 0 where the record is refused.
 pub fn visit(record: &[u8], file: &[u8], log: &mut [u8; 177]) -> usize {

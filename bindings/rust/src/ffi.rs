@@ -1,4 +1,7 @@
-//! The C interface, as include/machhurel.h declares it.
+//! The C interface itself, for callers that want the bits of an answer: include/machhurel.h says which bits hold what.
+//!
+//! Each pointer and length must be those of one slice; that is all that a call asks.
+#![allow(missing_docs)]
 
 extern "C" {
     pub fn machhurel_visit(

@@ -31,7 +31,7 @@
 
 mod calls;
 mod event;
-mod ffi;
+pub mod ffi;
 mod refusal;
 
 pub use calls::{digest, exceptions, listing, privilege, visit, Digest, Exceptions, PrivilegeLevel};

@@ -2,24 +2,7 @@
 
 use crate::lent::Lent;
 use answers::input::Call;
-
-#[link(name = "machhurel", kind = "static")]
-extern "C" {
-    fn machhurel_visit(
-        record: *const u8,
-        record_len: usize,
-        file: *const u8,
-        file_len: usize,
-        log: *mut u8,
-        log_len: usize,
-        start: usize,
-    ) -> u64;
-    fn machhurel_listing(record: *const u8, record_len: usize, out: *mut u8, out_len: usize, start: usize) -> u64;
-    fn machhurel_digest(record: *const u8, record_len: usize) -> u64;
-    fn machhurel_privilege(record: *const u8, record_len: usize) -> u64;
-    fn machhurel_exceptions(record: *const u8, record_len: usize) -> u64;
-    fn machhurel_event(log: *const u8, log_len: usize, at: usize) -> u64;
-}
+use machhurel::ffi::*;
 
 /// Makes one call; `subject` is the record or the log.
 pub fn answer(call: Call, subject: &Lent, file: &Lent, buffer: &mut Lent, start: usize) -> u64 {
