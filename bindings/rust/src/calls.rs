@@ -42,7 +42,13 @@ pub fn visit(record: &[u8], file: &[u8], log: &mut [u8], start: usize) -> Result
 pub fn listing(record: &[u8], out: &mut [u8], start: usize) -> Result<usize, Refusal> {
     // SAFETY: as for `visit`.
     let answer = unsafe {
-        ffi::machhurel_listing(record.as_ptr(), record.len(), out.as_mut_ptr(), out.len(), start)
+        ffi::machhurel_listing(
+            record.as_ptr(),
+            record.len(),
+            out.as_mut_ptr(),
+            out.len(),
+            start,
+        )
     };
     answered(answer).map(|bits| (bits >> 32) as usize)
 }
@@ -126,7 +132,9 @@ impl Exceptions {
 
     /// Whether the vector may be raised; no vector above 31 may.
     pub fn may(self, vector: u8) -> bool {
-        self.0.checked_shr(u32::from(vector)).is_some_and(|bits| bits & 1 == 1)
+        self.0
+            .checked_shr(u32::from(vector))
+            .is_some_and(|bits| bits & 1 == 1)
     }
 }
 

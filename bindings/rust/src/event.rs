@@ -75,10 +75,22 @@ fn event_of(bytes: &[u8]) -> Option<Event> {
     Some(match *bytes.first()? {
         1 => Event::RegisterRead(register()?),
         2 => Event::RegisterWrite(register()?),
-        3 => Event::MemoryRead { address: Some(address()?), size: *bytes.get(9)? },
-        4 => Event::MemoryWrite { address: Some(address()?), size: *bytes.get(9)? },
-        5 => Event::MemoryRead { address: None, size: *bytes.get(1)? },
-        6 => Event::MemoryWrite { address: None, size: *bytes.get(1)? },
+        3 => Event::MemoryRead {
+            address: Some(address()?),
+            size: *bytes.get(9)?,
+        },
+        4 => Event::MemoryWrite {
+            address: Some(address()?),
+            size: *bytes.get(9)?,
+        },
+        5 => Event::MemoryRead {
+            address: None,
+            size: *bytes.get(1)?,
+        },
+        6 => Event::MemoryWrite {
+            address: None,
+            size: *bytes.get(1)?,
+        },
         _ => return None,
     })
 }

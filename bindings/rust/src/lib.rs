@@ -34,7 +34,9 @@ mod event;
 pub mod ffi;
 mod refusal;
 
-pub use calls::{digest, exceptions, listing, privilege, visit, Digest, Exceptions, PrivilegeLevel};
+pub use calls::{
+    digest, exceptions, listing, privilege, visit, Digest, Exceptions, PrivilegeLevel,
+};
 pub use event::{Event, Events, Register};
 pub use refusal::Refusal;
 

@@ -48,9 +48,15 @@ fn a_read_and_a_write_of_one_address() {
         events,
         [
             Event::RegisterRead(rbx),
-            Event::MemoryRead { address: Some(0x1008), size: 8 },
+            Event::MemoryRead {
+                address: Some(0x1008),
+                size: 8
+            },
             Event::RegisterRead(rbx),
-            Event::MemoryWrite { address: Some(0x1008), size: 8 },
+            Event::MemoryWrite {
+                address: Some(0x1008),
+                size: 8
+            },
         ]
     );
     assert!(log[n..].iter().all(|&b| b == 0xEE));
@@ -60,7 +66,13 @@ fn a_read_and_a_write_of_one_address() {
 fn an_unknown_register_gives_an_unknown_address() {
     let mut log = [0u8; LOG_BYTES];
     let n = visit(&store_record(), &file_of(0, 0), &mut log, 0).unwrap();
-    assert_eq!(Events::new(&log[..n]).nth(1), Some(Ok(Event::MemoryRead { address: None, size: 8 })));
+    assert_eq!(
+        Events::new(&log[..n]).nth(1),
+        Some(Ok(Event::MemoryRead {
+            address: None,
+            size: 8
+        }))
+    );
 }
 
 #[test]
@@ -74,15 +86,36 @@ fn each_refusal() {
         record
     };
     assert_eq!(visit(&good[..39], &file, &mut log, 0), Err(Refusal::Form));
-    assert_eq!(visit(&changed(16, 65), &file, &mut log, 0), Err(Refusal::Field));
+    assert_eq!(
+        visit(&changed(16, 65), &file, &mut log, 0),
+        Err(Refusal::Field)
+    );
     assert_eq!(visit(&good, &file[..140], &mut log, 0), Err(Refusal::File));
-    assert_eq!(visit(&changed(36, 0x20), &file, &mut log, 0), Err(Refusal::Complex { opcode: 40 }));
-    assert_eq!(visit(&changed(4, 0), &file, &mut log, 0), Err(Refusal::Operand));
-    assert_eq!(visit(&changed(16, 0), &file, &mut log, 0), Err(Refusal::Size));
-    assert_eq!(visit(&good, &file, &mut log, LOG_BYTES + 1), Err(Refusal::Room));
-    assert_eq!(visit(&good, &file, &mut log, usize::MAX), Err(Refusal::Room));
+    assert_eq!(
+        visit(&changed(36, 0x20), &file, &mut log, 0),
+        Err(Refusal::Complex { opcode: 40 })
+    );
+    assert_eq!(
+        visit(&changed(4, 0), &file, &mut log, 0),
+        Err(Refusal::Operand)
+    );
+    assert_eq!(
+        visit(&changed(16, 0), &file, &mut log, 0),
+        Err(Refusal::Size)
+    );
+    assert_eq!(
+        visit(&good, &file, &mut log, LOG_BYTES + 1),
+        Err(Refusal::Room)
+    );
+    assert_eq!(
+        visit(&good, &file, &mut log, usize::MAX),
+        Err(Refusal::Room)
+    );
     assert_eq!(visit(&good, &file, &mut [], 0), Err(Refusal::Room));
-    assert_eq!(Refusal::Complex { opcode: 24 }.to_string(), "refused 4: complex instruction, opcode 24");
+    assert_eq!(
+        Refusal::Complex { opcode: 24 }.to_string(),
+        "refused 4: complex instruction, opcode 24"
+    );
     assert!(log.iter().all(|&b| b == 0));
 }
 
@@ -90,7 +123,11 @@ fn each_refusal() {
 fn any_bytes_get_an_answer() {
     let mut random = Random(0x9E37_79B9_7F4A_7C15);
     for round in 0..100_000u64 {
-        let mut record = if round % 2 == 0 { store_record().to_vec() } else { random.bytes(40) };
+        let mut record = if round % 2 == 0 {
+            store_record().to_vec()
+        } else {
+            random.bytes(40)
+        };
         record[0] = 0x10;
         let at = (random.next() % 40) as usize;
         record[at] = random.next() as u8;

@@ -85,14 +85,14 @@ pub fn visit_accesses(b: &[u8], file: &[u8], log: &mut [u8], start: usize) -> An
     if found.number != 0 {
         return Answer::Refused(found.number);
     }
-    let lent = RegisterFile::from_bytes(file);
-    if lent.number != 0 {
-        return Answer::Refused(lent.number);
+    let parsed = RegisterFile::from_bytes(file);
+    if parsed.number != 0 {
+        return Answer::Refused(parsed.number);
     }
     visit_record(
         fixups::fixed_up(found.read),
-        &lent.file.values,
-        lent.file.known,
+        &parsed.file.values,
+        parsed.file.known,
         log,
         start,
     )
