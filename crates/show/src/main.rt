@@ -1,10 +1,6 @@
 // show FILE..: shows which registers and which memory each record of a trace touches.
-mod lines; // lines.rt: the line of an event
-mod names; // names.rt: the name of a register
 mod problem; // problem.rt: what is wrong with a trace
-mod report; // report.rt: what a record touches
 mod trace; // trace.rt: the items of a trace
-mod words; // words.rt: the pieces of a line
 
 use libc::STDOUT_FILENO;
 

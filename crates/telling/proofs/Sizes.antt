@@ -1,0 +1,199 @@
+-- How many bytes the words take, at most. Assumes nothing.
+use Prim.Native.Nat.{ℕ, zero, suc, _+_, _-_, _*_, _/_, _≤_, _<_}
+use native.Mathlib.Nat.{le-refl, le-trans}
+use native.Mathlib.Omega.{arith}
+use mathlib.Core.Path.{_≡_, refl, sym, ap, _∙_}
+use mathlib.Core.Bool.{Bool, true, false, cond}
+use mathlib.Core.List.{List, [], _∷_, _++_, append-nil}
+use lib.ListN.{length, take, drop, getD, length-take}
+use lib.Dec.{ltb, eqb}
+use Rattle.laws.specs.Lists.{each, flat}
+use Rattle.laws.specs.Lending.{size}
+use Rattle.laws.proofs.Lending.{sizes, size-append, size-flat}
+use Rattle.laws.proofs.Every.{Every, every-at}
+use Rattle.registers.specs.declared.RegSpec.{RegSpec}
+use Rattle.definition.specs.Readings.{readAt}
+use Rattle.definition.specs.declared.Event.{Event}
+use Rattle.definition.specs.declared.Event.the-variants.{RegisterRead, RegisterWrite, MemoryRead, MemoryWrite, UnknownRead, UnknownWrite}
+use Rattle.definition.specs.declared.Answer.{Answer}
+use Rattle.definition.specs.declared.Answer.the-variants.{Done, Refused, Complex}
+use Rattle.definition.specs.declared.Reading.{Reading}
+use Rattle.definition.specs.declared.Reading.the-variants.{Found, Bad, Finished}
+use Rattle.event.proofs.Fronts.{Moves, moves}
+use Rattle.telling.specs.Ascii.{ascii}
+use Rattle.telling.specs.Names.{lettersAt, cell}
+use Rattle.telling.specs.Words.{Word, letters, decimal, hex, places, wordBytes, text, named, numbered, names, nameOf, sizeOf, placeOf, registerLine, memoryLine, unknownLine, lineOf}
+use Rattle.telling.specs.Reports.{linedBy, linesFrom, linesOf, logWords, around, answerWords}
+use Rattle.telling.proofs.Numbers.{long}
+use Rattle.telling.proofs.Cells.{quad-name, double-name, word-name, low-name, byte-name}
+
+-- a choice between two that are short
+pub either : (t : Bool) (a b : List Word) {k : ℕ} → size wordBytes a ≤ k → size wordBytes b ≤ k → size wordBytes (cond t a b) ≤ k
+either true a b p q = p
+either false a b p q = q
+
+few : (t : Bool) (m n : ℕ) → m ≤ n → cond t 1 (suc m) ≤ suc n
+few true m n h = omega arith
+few false m n h = omega arith
+
+places-few : (limit n : ℕ) → places limit n ≤ suc limit
+unfolding places
+places-few zero n = le-refl 1
+places-few (suc limit) n = few (ltb n 10) (places limit (n / 10)) (suc limit) (places-few limit (n / 10))
+
+letters-size : (t : List ℕ) → size wordBytes (letters t ∷ []) ≡ length t
+unfolding size each wordBytes
+letters-size t = simp append-nil
+
+decimal-size : (n : ℕ) → size wordBytes (decimal n ∷ []) ≤ 20
+unfolding size each wordBytes
+decimal-size n = simp append-nil (omega (arith, long 10 (places 19 n) n, places-few 19 n))
+
+hex-size : (a : ℕ) → size wordBytes (hex a ∷ []) ≡ 16
+unfolding size each wordBytes
+hex-size a = simp append-nil (long 16 16 a)
+
+around-size : (s : List ℕ) (n : ℕ) (t : List ℕ) → size wordBytes (around s n t) ≤ length s + 20 + length t
+unfolding around sizes
+around-size s n t =
+    omega (arith, size-flat wordBytes ((letters s ∷ []) ∷ (decimal n ∷ []) ∷ (letters t ∷ []) ∷ []), letters-size s, decimal-size n, letters-size t)
+
+numbered-size : (s : List ℕ) (n : ℕ) → size wordBytes (numbered s n) ≤ length s + 20
+unfolding numbered
+numbered-size s n = omega (arith, size-append wordBytes (letters s ∷ []) (decimal n ∷ []), letters-size s, decimal-size n)
+
+-- names
+letters-few : (row : List ℕ) (at : ℕ) → lettersAt row at ≤ 4
+unfolding lettersAt
+letters-few row at = by (eqb (getD row (at + 2) 0) 32) (eqb (getD row (at + 3) 0) 32)
+  where
+    by : (s t : Bool) → cond s 2 (cond t 3 4) ≤ 4
+    by true t = omega arith
+    by false true = omega arith
+    by false false = omega arith
+
+cell-few : (row : List ℕ) (k : ℕ) → length (cell row k) ≤ 4
+unfolding cell
+cell-few row k = by (ltb (length row) (5 * k + 5)) (drop (5 * k) row)
+  where
+    by : (t : Bool) (l : List ℕ) → length (cond t [] (take (lettersAt row (5 * k)) l)) ≤ 4
+    by true l = omega arith
+    by false l = omega (arith, length-take (lettersAt row (5 * k)) l, letters-few row (5 * k))
+
+-- a row's name, whichever row
+row-size : (ws : List Word) (row : List ℕ) (k : ℕ) → ws ≡ letters (cell row k) ∷ [] → size wordBytes ws ≤ 26
+row-size ws row k e = rw e (omega (arith, letters-size (cell row k), cell-few row k))
+
+names-size : (k : ℕ) → Every (λ (ws : List Word). size wordBytes ws ≤ 26) (names k)
+unfolding names ascii
+names-size k = (
+  row-size _ _ k (quad-name k),
+  (
+    row-size _ _ k (double-name k),
+    (
+      row-size _ _ k (word-name k),
+      (
+        row-size _ _ k (low-name k),
+        (
+          row-size _ _ k (byte-name k),
+          (
+            omega (arith, numbered-size (ascii "xmm") k),
+            (
+              omega (arith, numbered-size (ascii "ymm") k),
+              (
+                omega (arith, numbered-size (ascii "zmm") k),
+                (
+                  omega (arith, numbered-size (ascii "k") k),
+                  (
+                    omega (arith, letters-size (ascii "rip")),
+                    (
+                      omega (arith, letters-size (ascii "eip")),
+                      (
+                        omega (arith, letters-size (ascii "rflags")),
+                        (
+                          omega (arith, numbered-size (ascii "other ") k),
+                          tt,
+                        ),
+                      ),
+                    ),
+                  ),
+                ),
+              ),
+            ),
+          ),
+        ),
+      ),
+    ),
+  ),
+)
+
+name-size : (y : RegSpec) → size wordBytes (nameOf y) ≤ 26
+unfolding nameOf size each
+name-size y = every-at (λ (ws : List Word). size wordBytes ws ≤ 26) (names (y .number)) [] (names-size (y .number)) (omega arith) (y .bank)
+
+-- lines
+size-size : (n : ℕ) → size wordBytes (sizeOf n) ≤ 27
+unfolding sizeOf ascii sizes
+size-size n =
+    either (eqb n 1) (text "1 byte\n") (flat ((decimal n ∷ []) ∷ text " bytes\n" ∷ []))
+    (omega (arith, letters-size (ascii "1 byte\n")))
+    (omega (arith, size-flat wordBytes ((decimal n ∷ []) ∷ text " bytes\n" ∷ []), decimal-size n, letters-size (ascii " bytes\n")))
+
+place-size : (a : ℕ) → size wordBytes (placeOf a) ≤ 21
+unfolding placeOf ascii sizes
+place-size a =
+    omega (arith, size-flat wordBytes (text "[0x" ∷ (hex a ∷ []) ∷ text "] " ∷ []), letters-size (ascii "[0x"), hex-size a, letters-size (ascii "] "))
+
+module _ (way : List ℕ) (short : length way ≤ 8) where
+  register-size : (y : RegSpec) → size wordBytes (registerLine way y) ≤ 64
+  unfolding registerLine ascii sizes
+  register-size y =
+      omega (arith, size-flat wordBytes ((letters way ∷ []) ∷ nameOf y ∷ text "\n" ∷ []), letters-size way, name-size y, letters-size (ascii "\n"))
+
+  memory-size : (a n : ℕ) → size wordBytes (memoryLine way a n) ≤ 64
+  unfolding memoryLine sizes
+  memory-size a n =
+      omega (arith, size-flat wordBytes ((letters way ∷ []) ∷ placeOf a ∷ sizeOf n ∷ []), letters-size way, place-size a, size-size n)
+
+  unknown-size : (n : ℕ) → size wordBytes (unknownLine way n) ≤ 64
+  unfolding unknownLine ascii sizes
+  unknown-size n =
+      omega (arith, size-flat wordBytes ((letters way ∷ []) ∷ text "[unknown] " ∷ sizeOf n ∷ []), letters-size way, letters-size (ascii "[unknown] "), size-size n)
+
+line-size : (e : Event) → size wordBytes (lineOf e) ≤ 64
+unfolding lineOf ascii
+line-size (RegisterRead y) = register-size (ascii "  read ") (omega arith) y
+line-size (RegisterWrite y) = register-size (ascii "  write ") (omega arith) y
+line-size (MemoryRead a n) = memory-size (ascii "  read ") (omega arith) a n
+line-size (MemoryWrite a n) = memory-size (ascii "  write ") (omega arith) a n
+line-size (UnknownRead n) = unknown-size (ascii "  read ") (omega arith) n
+line-size (UnknownWrite n) = unknown-size (ascii "  write ") (omega arith) n
+
+-- logs: an event has a byte at least, and its line no more than 64
+read-size :
+    (l : List ℕ) (at : ℕ) (rest : ℕ → List Word) (r : Reading) → Moves l at r
+    → ((k : ℕ) → size wordBytes (rest k) ≤ 64 * (length l - k)) → size wordBytes (linedBy r rest) ≤ 64 * (length l - at)
+unfolding size each
+read-size l at rest (Found e k) m h = omega (arith, size-append wordBytes (lineOf e) (rest k), line-size e, h k, m .0, m .1)
+read-size l at rest (Bad k) m h = omega arith
+read-size l at rest Finished m h = omega arith
+
+lines-size : (fuel : ℕ) (l : List ℕ) (at : ℕ) → size wordBytes (linesFrom fuel l at) ≤ 64 * (length l - at)
+unfolding linesFrom size each
+lines-size zero l at = omega arith
+lines-size (suc fuel) l at = read-size l at (linesFrom fuel l) (readAt l at) (moves l at) (lines-size fuel l)
+
+log-size : (l : List ℕ) → size wordBytes (logWords l) ≤ 64 * length l + 64
+unfolding logWords linesOf ascii
+log-size l =
+    either (eqb (length l) 0) (text "  touches nothing\n") (linesOf l) (omega (arith, letters-size (ascii "  touches nothing\n"))) (omega (arith, lines-size (length l) l 0))
+
+pub answer-size : (a : Answer) (l : List ℕ) → size wordBytes (answerWords a l) ≤ 64 * length l + 64
+unfolding answerWords ascii
+answer-size (Done n) l = omega (arith, log-size (take n l), length-take n l)
+answer-size (Refused k) l = omega (arith, around-size (ascii "  refused ") k (ascii "\n"))
+answer-size (Complex o) l = omega (arith, around-size (ascii "  refused 4 (opcode ") o (ascii ")\n"))
+
+pub number-size : (n : ℕ) → size wordBytes (around (ascii "record ") n (ascii "\n")) ≤ 64
+unfolding ascii
+number-size n = omega (arith, around-size (ascii "record ") n (ascii "\n"))
