@@ -1,7 +1,7 @@
 -- The rows of names hold the names. Assumes nothing.
 use Prim.Native.Nat.{ℕ, zero, suc, _+_, _*_, _≤_, _<_}
 use Prim.Native.String.{String}
-use native.Mathlib.Nat.{add-zero, zero-add, add-suc, suc-add}
+use native.Mathlib.Nat.{add-zero, zero-add}
 use native.Mathlib.Omega.{arith}
 use mathlib.Core.Path.{_≡_, refl, sym, ap, _∙_}
 use mathlib.Core.List.{List, [], _∷_, map}
@@ -10,7 +10,7 @@ use borrow.Author.Tests.{lt-ltb, le-ltb}
 use Rattle.registers.specs.declared.RegSpec.{RegSpec}
 use Rattle.telling.specs.Ascii.{ascii}
 use Rattle.telling.specs.Names.{quads, doubles, words, lows, bytes, lettersAt, cell}
-use Rattle.telling.specs.Words.{Word, letters, text, named, numbered, names, nameOf}
+use Rattle.telling.specs.Words.{letters, named, names, nameOf}
 
 pub no-cell : (row : List ℕ) (k : ℕ) → length row < 5 * k + 5 → cell row k ≡ []
 unfolding cell

@@ -1,9 +1,8 @@
 -- A number has one count of fewest digits. Assumes nothing.
-use Prim.Native.Nat.{ℕ, zero, suc, _+_, _-_, _*_, _/_, _^_, _≤_, _<_}
+use Prim.Native.Nat.{ℕ, zero, suc, _-_, _/_, _^_, _≤_, _<_}
 use native.Mathlib.Nat.{le-refl, pow-le-pow-right, pow-succ'}
 use native.Mathlib.Omega.{arith}
-use mathlib.Core.Path.{_≡_, refl, ap, _∙_}
-use mathlib.Core.List.{List, [], _∷_}
+use mathlib.Core.Path.{_≡_, refl, _∙_}
 use mathlib.Core.Bool.{Bool, true, false, cond}
 use lib.ListN.{length, length-append}
 use lib.Dec.{ltb}

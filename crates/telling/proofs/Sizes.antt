@@ -1,15 +1,16 @@
 -- How many bytes the words take, at most. Assumes nothing.
-use Prim.Native.Nat.{ℕ, zero, suc, _+_, _-_, _*_, _/_, _≤_, _<_}
-use native.Mathlib.Nat.{le-refl, le-trans}
+use Prim.Native.Nat.{ℕ, zero, suc, _+_, _-_, _*_, _/_, _≤_}
+use native.Mathlib.Nat.{le-refl}
 use native.Mathlib.Omega.{arith}
-use mathlib.Core.Path.{_≡_, refl, sym, ap, _∙_}
-use mathlib.Core.Bool.{Bool, true, false, cond}
-use mathlib.Core.List.{List, [], _∷_, _++_, append-nil}
+use mathlib.Core.Path.{_≡_, _∙_}
+use mathlib.Core.List.{List, [], _∷_}
 use lib.ListN.{length, take, drop, getD, length-take}
 use lib.Dec.{ltb, eqb}
 use Rattle.laws.specs.Lists.{each, flat}
 use Rattle.laws.specs.Lending.{size}
 use Rattle.laws.proofs.Lending.{sizes, size-append, size-flat}
+use Rattle.laws.proofs.OneByOne.{one-size}
+use Rattle.laws.proofs.Choice.{either}
 use Rattle.laws.proofs.Every.{Every, every-at}
 use Rattle.registers.specs.declared.RegSpec.{RegSpec}
 use Rattle.definition.specs.Readings.{readAt}
@@ -22,36 +23,29 @@ use Rattle.definition.specs.declared.Reading.the-variants.{Found, Bad, Finished
 use Rattle.event.proofs.Fronts.{Moves, moves}
 use Rattle.telling.specs.Ascii.{ascii}
 use Rattle.telling.specs.Names.{lettersAt, cell}
-use Rattle.telling.specs.Words.{Word, letters, decimal, hex, places, wordBytes, text, named, numbered, names, nameOf, sizeOf, placeOf, registerLine, memoryLine, unknownLine, lineOf}
+use Rattle.telling.specs.Words.{Word, letters, decimal, hex, places, wordBytes, text, numbered, names, nameOf, sizeOf, placeOf, registerLine, memoryLine, unknownLine, lineOf}
 use Rattle.telling.specs.Reports.{linedBy, linesFrom, linesOf, logWords, around, answerWords}
 use Rattle.telling.proofs.Numbers.{long}
 use Rattle.telling.proofs.Cells.{quad-name, double-name, word-name, low-name, byte-name}
 
--- a choice between two that are short
-pub either : (t : Bool) (a b : List Word) {k : ℕ} → size wordBytes a ≤ k → size wordBytes b ≤ k → size wordBytes (cond t a b) ≤ k
-either true a b p q = p
-either false a b p q = q
-
-few : (t : Bool) (m n : ℕ) → m ≤ n → cond t 1 (suc m) ≤ suc n
-few true m n h = omega arith
-few false m n h = omega arith
-
 places-few : (limit n : ℕ) → places limit n ≤ suc limit
 unfolding places
 places-few zero n = le-refl 1
-places-few (suc limit) n = few (ltb n 10) (places limit (n / 10)) (suc limit) (places-few limit (n / 10))
+places-few (suc limit) n =
+    let few = places-few limit (n / 10) in
+    either (λ (k : ℕ). k ≤ suc (suc limit)) (ltb n 10) 1 (suc (places limit (n / 10))) (λ e. omega arith) (λ e. omega arith)
 
 letters-size : (t : List ℕ) → size wordBytes (letters t ∷ []) ≡ length t
-unfolding size each wordBytes
-letters-size t = simp append-nil
+unfolding wordBytes
+letters-size t = one-size wordBytes (letters t)
 
 decimal-size : (n : ℕ) → size wordBytes (decimal n ∷ []) ≤ 20
-unfolding size each wordBytes
-decimal-size n = simp append-nil (omega (arith, long 10 (places 19 n) n, places-few 19 n))
+unfolding wordBytes
+decimal-size n = omega (arith, one-size wordBytes (decimal n), long 10 (places 19 n) n, places-few 19 n)
 
 hex-size : (a : ℕ) → size wordBytes (hex a ∷ []) ≡ 16
-unfolding size each wordBytes
-hex-size a = simp append-nil (long 16 16 a)
+unfolding wordBytes
+hex-size a = one-size wordBytes (hex a) ∙ long 16 16 a
 
 around-size : (s : List ℕ) (n : ℕ) (t : List ℕ) → size wordBytes (around s n t) ≤ length s + 20 + length t
 unfolding around sizes
@@ -65,20 +59,15 @@ numbered-size s n = omega (arith, size-append wordBytes (letters s ∷ []) (deci
 -- names
 letters-few : (row : List ℕ) (at : ℕ) → lettersAt row at ≤ 4
 unfolding lettersAt
-letters-few row at = by (eqb (getD row (at + 2) 0) 32) (eqb (getD row (at + 3) 0) 32)
-  where
-    by : (s t : Bool) → cond s 2 (cond t 3 4) ≤ 4
-    by true t = omega arith
-    by false true = omega arith
-    by false false = omega arith
+letters-few row at =
+    let most : ℕ → Type 0 = λ n. n ≤ 4 in
+    either most (eqb (getD row (at + 2) 0) 32) 2 _ (λ e. omega arith) (λ e. either most (eqb (getD row (at + 3) 0) 32) 3 4 (λ e. omega arith) (λ e. omega arith))
 
 cell-few : (row : List ℕ) (k : ℕ) → length (cell row k) ≤ 4
 unfolding cell
-cell-few row k = by (ltb (length row) (5 * k + 5)) (drop (5 * k) row)
-  where
-    by : (t : Bool) (l : List ℕ) → length (cond t [] (take (lettersAt row (5 * k)) l)) ≤ 4
-    by true l = omega arith
-    by false l = omega (arith, length-take (lettersAt row (5 * k)) l, letters-few row (5 * k))
+cell-few row k =
+    either (λ (l : List ℕ). length l ≤ 4) (ltb (length row) (5 * k + 5)) [] _ (λ e. omega arith)
+    (λ e. omega (arith, length-take (lettersAt row (5 * k)) (drop (5 * k) row), letters-few row (5 * k)))
 
 -- a row's name, whichever row
 row-size : (ws : List Word) (row : List ℕ) (k : ℕ) → ws ≡ letters (cell row k) ∷ [] → size wordBytes ws ≤ 26
@@ -135,9 +124,9 @@ name-size y = every-at (λ (ws : List Word). size wordBytes ws ≤ 26) (names (y
 size-size : (n : ℕ) → size wordBytes (sizeOf n) ≤ 27
 unfolding sizeOf ascii sizes
 size-size n =
-    either (eqb n 1) (text "1 byte\n") (flat ((decimal n ∷ []) ∷ text " bytes\n" ∷ []))
-    (omega (arith, letters-size (ascii "1 byte\n")))
-    (omega (arith, size-flat wordBytes ((decimal n ∷ []) ∷ text " bytes\n" ∷ []), decimal-size n, letters-size (ascii " bytes\n")))
+    either (λ (ws : List Word). size wordBytes ws ≤ 27) (eqb n 1) (text "1 byte\n") (flat ((decimal n ∷ []) ∷ text " bytes\n" ∷ []))
+    (λ e. omega (arith, letters-size (ascii "1 byte\n")))
+    (λ e. omega (arith, size-flat wordBytes ((decimal n ∷ []) ∷ text " bytes\n" ∷ []), decimal-size n, letters-size (ascii " bytes\n")))
 
 place-size : (a : ℕ) → size wordBytes (placeOf a) ≤ 21
 unfolding placeOf ascii sizes
@@ -186,7 +175,9 @@ lines-size (suc fuel) l at = read-size l at (linesFrom fuel l) (readAt l at) (mo
 log-size : (l : List ℕ) → size wordBytes (logWords l) ≤ 64 * length l + 64
 unfolding logWords linesOf ascii
 log-size l =
-    either (eqb (length l) 0) (text "  touches nothing\n") (linesOf l) (omega (arith, letters-size (ascii "  touches nothing\n"))) (omega (arith, lines-size (length l) l 0))
+    either (λ (ws : List Word). size wordBytes ws ≤ 64 * length l + 64) (eqb (length l) 0) (text "  touches nothing\n") (linesOf l)
+    (λ e. omega (arith, letters-size (ascii "  touches nothing\n")))
+    (λ e. omega (arith, lines-size (length l) l 0))
 
 pub answer-size : (a : Answer) (l : List ℕ) → size wordBytes (answerWords a l) ≤ 64 * length l + 64
 unfolding answerWords ascii

@@ -1,14 +1,14 @@
 -- The log of a visit lies in its buffer. Assumes nothing.
-use Prim.Native.Nat.{ℕ, _+_, _≤_}
+use Prim.Native.Nat.{ℕ, _≤_}
 use native.Mathlib.Nat.{le-refl, le-trans}
 use native.Mathlib.Omega.{arith}
-use mathlib.Core.Path.{_≡_, refl, ap}
-use mathlib.Core.Bool.{Bool, true, false, cond}
-use mathlib.Core.List.{List, _++_}
+use mathlib.Core.Path.{ap}
+use mathlib.Core.List.{List}
 use lib.ListN.{length, drop, length-append}
 use lib.Dec.{eqb}
 use Rattle.laws.specs.Lists.{each}
 use Rattle.laws.specs.Lending.{size, Logged, splice}
+use Rattle.laws.proofs.Choice.{either}
 use Rattle.registers.specs.Files.{fileOf}
 use Rattle.definition.specs.Logs.{bytesOf}
 use Rattle.definition.specs.Visits.{fixedRecord, logOf, outcome, visitBy, visitOf, countOf}
@@ -19,12 +19,10 @@ use Rattle.telling.specs.Words.{Word, wordBytes}
 
 counts : (number opcode : ℕ) (bytes buffer : List ℕ) (start : ℕ) → countOf (outcome number opcode bytes buffer start .0) ≤ length bytes
 unfolding outcome
-counts number opcode bytes buffer start = by (eqb number 0) (eqb number 4)
-  where
-    by : (s t : Bool) → countOf (cond {A = Answer × List ℕ} s (Done (length bytes), splice buffer start bytes) (cond t (Complex opcode, buffer) (Refused number, buffer)) .0) ≤ length bytes
-    by true t = le-refl (length bytes)
-    by false true = omega arith
-    by false false = omega arith
+counts number opcode bytes buffer start =
+    let few : Answer × List ℕ → Type 0 = λ o. countOf (o .0) ≤ length bytes in
+    either few (eqb number 0) (Done (length bytes), splice buffer start bytes) _ (λ e. le-refl (length bytes))
+    (λ e. either few (eqb number 4) (Complex opcode, buffer) (Refused number, buffer) (λ e. omega arith) (λ e. omega arith))
 
 pub visit-counts : (b file buffer : List ℕ) (start : ℕ) → countOf (visitOf b file buffer start .0) ≤ 177
 unfolding visitBy logOf

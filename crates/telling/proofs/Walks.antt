@@ -1,16 +1,15 @@
 -- A walk over a log, line by line. Assumes nothing.
-use Prim.Native.Nat.{ℕ, zero, suc, _+_, _-_, _^_, _≤_, _<_}
+use Prim.Native.Nat.{ℕ, zero, suc, _+_, _-_, _≤_, _<_}
 use native.Mathlib.Nat.{sub-zero}
 use native.Mathlib.Omega.{arith}
-use mathlib.Core.Path.{_≡_, refl, sym, ap, _∙_}
+use mathlib.Core.Path.{_≡_, refl, _∙_}
 use mathlib.Core.Logic.{⊎-elim, _⊎_}
-use mathlib.Core.List.{List, [], _∷_, _++_, append-assoc, append-nil}
+use mathlib.Core.List.{List, [], _∷_, _++_, append-assoc}
 use lib.ListN.{length}
 use borrow.Author.Tests.{eq-eqb, ne-eqb}
 use denote.Enum.Declared.{tagOf, declared}
 use Rattle.laws.specs.Lists.{flat}
-use Rattle.laws.specs.Lending.{size, Logged}
-use Rattle.laws.proofs.Lending.{Going, silent, whole}
+use Rattle.laws.proofs.Lending.{Going}
 use Rattle.definition.proofs.Reading.{enum}
 use Rattle.definition.specs.Readings.{readAt}
 use Rattle.definition.specs.declared.Reading.{Reading}
@@ -54,43 +53,19 @@ stopped (Found e k) rest t = absurd (⊎-elim (λ x. omega arith) (λ x. omega a
 stopped (Bad k) rest t = refl
 stopped Finished rest t = refl
 
--- the walk as one segment to write: all of it, then a line and the rest, then nothing
-pub started :
-    (l old : List ℕ) → size wordBytes (linesOf l) ≤ length old → length old < 2 ^ 64
-    → Going wordBytes (linesOf l) (left l 0 ∷ []) old old 0
-unfolding linesOf flat
-started l old h k =
-    record {
-      done = [];
-      rest = append-nil (left l 0) ∙ rw (sub-zero (length l));
-      logged = silent wordBytes old;
-      left = h;
-      small = k;
-    }
+-- from the start on they are all lines
+pub whole : (l : List ℕ) → left l 0 ≡ linesOf l
+unfolding linesOf
+whole l = rw (sub-zero (length l))
 
+-- a line has several words: those that are left are the line's, and then the others
 pub parted :
     {all ws : List Word} {old mid : List ℕ} {m : ℕ} (xs ys : List Word)
-    → Going wordBytes all (ws ∷ []) old mid m → ws ≡ xs ++ ys → Going wordBytes all (xs ∷ ys ∷ []) old mid m
+    → ws ≡ xs ++ ys → Going wordBytes all (ws ∷ []) old mid m → Going wordBytes all (xs ∷ ys ∷ []) old mid m
 unfolding flat
-parted {ws = ws} xs ys g e =
-    record {
-      done = g .done;
-      rest = ap (λ (t : List Word). g .done ++ t) (sym (append-assoc xs ys []) ∙ ap (λ (t : List Word). t ++ []) (sym e)) ∙ g .rest;
-      logged = g .logged;
-      left = g .left;
-      small = g .small;
-    }
-
-pub ended : {all ws : List Word} {old mid : List ℕ} {m : ℕ} → Going wordBytes all (ws ∷ []) old mid m → ws ≡ [] → Logged wordBytes all old mid m
-unfolding flat
-ended {ws = ws} g e =
-    whole (record {
-      done = g .done;
-      rest = ap (λ (t : List Word). g .done ++ (t ++ [])) (sym e) ∙ g .rest;
-      logged = g .logged;
-      left = g .left;
-      small = g .small;
-    })
+parted xs ys e g =
+    let h = rw (e, append-assoc xs ys []) at (g .rest) in
+    record { done = g .done; rest = h; logged = g .logged; left = g .left; small = g .small }
 
 -- a log in words: that it is empty, or its lines
 pub untouched : (l : List ℕ) → length l ≡ 0 → logWords l ≡ text "  touches nothing\n"

@@ -2,12 +2,12 @@
 use Prim.Native.Nat.{ℕ, _+_, _-_, _*_}
 use native.Mathlib.Omega.{arith}
 use mathlib.Core.Path.{_≡_, sym, ap, _∙_, refl}
-use mathlib.Core.List.{List, []}
+use mathlib.Core.List.{[]}
 use lib.ListN.{take, drop}
 use borrow.Author.Needs.{needs}
+use Rattle.laws.proofs.OneByOne.{logged}
 use Rattle.telling.specs.Names.{cell}
 use Rattle.telling.specs.Words.{letters, wordBytes}
-use Rattle.telling.proofs.Texts.{one}
 use Rattle.telling.proofs.Cells.{no-cell, whole-cell}
 use Rattle.telling.proofs.names.put_named.Statement.{statement}
 use Rattle.telling.proofs.names.put_named.Tie as tie
@@ -22,7 +22,7 @@ returns : tie.Need-returns
 unfolding wordBytes
 returns c =
     let s = c .before .before .before in
-    one (letters (cell (s .args .row .now) (s .args .k))) [] (no-cell (s .args .row .now) (s .args .k) (c .if1 .taken)) refl refl
+    rw (no-cell (s .args .row .now) (s .args .k) (c .if1 .taken)) (logged wordBytes (letters []) (refl, refl))
 
 letters-at-requires : tie.Need-letters-at-requires
 letters-at-requires c κs = search needs

@@ -1,9 +1,8 @@
 -- The stem and the number behind it. Assumes nothing.
-use Prim.Native.Nat.{_+_}
 use mathlib.Core.List.{[], _∷_}
 use borrow.Author.Needs.{needs}
 use denote.Ref.{now}
-use Rattle.laws.proofs.Lending.{back, Going, first, next, inside, fits, fits-first, ends, whole}
+use Rattle.laws.proofs.Lending.{Going, first, next, inside, fits, fits-first, ends, whole}
 use Rattle.laws.specs.Lists.{flat}
 use Rattle.telling.specs.Words.{letters, decimal, wordBytes, numbered}
 use Rattle.telling.proofs.names.put_numbered.Statement.{statement}

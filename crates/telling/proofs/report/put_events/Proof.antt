@@ -2,18 +2,19 @@
 use Prim.Native.Nat.{_-_, _≤_, _<_, zero-le}
 use native.Mathlib.Omega.{arith}
 use mathlib.Core.Path.{_≡_, sym, ap, _∙_, subst}
-use mathlib.Core.List.{List, [], _∷_}
+use mathlib.Core.List.{[], _∷_}
 use denote.Ref.{now}
 use lib.ListN.{length}
 use borrow.Author.Needs.{needs}
 use Rattle.laws.proofs.Lending.{Going, next, inside, fits, ends, keeps}
+use Rattle.laws.proofs.OneByOne.{begins, no-more}
 use Rattle.definition.specs.Readings.{readAt}
 use Rattle.definition.specs.declared.Reading.{Reading}
 use Rattle.definition.specs.declared.Reading.the-variants.{Found}
 use Rattle.event.proofs.Fronts.{Moves, moves}
-use Rattle.telling.specs.Words.{Word, wordBytes, lineOf}
+use Rattle.telling.specs.Words.{wordBytes, lineOf}
 use Rattle.telling.specs.Reports.{linedBy, linesOf}
-use Rattle.telling.proofs.Walks.{left, unrolled, stopped, started, parted, ended}
+use Rattle.telling.proofs.Walks.{left, whole, unrolled, stopped, parted}
 use Rattle.telling.proofs.report.put_events.Statement.{statement}
 use Rattle.telling.proofs.report.put_events.Tie as tie
 
@@ -24,7 +25,7 @@ abbrev μ-loop : tie.MeasureT-loop
 μ-loop out₀ log at₀ n₀ out at n = length log - at
 
 loop-holds : tie.Need-loop-holds Inv-loop μ-loop
-loop-holds c = let s = c .before .before in (zero-le, started (s .args .log .now) (s .args .out .now) (s .pre) (s .good .0 .0))
+loop-holds c = let s = c .before .before in (zero-le, begins (whole (s .args .log .now)) (s .pre) (s .good .0 .0))
 
 read-event-requires : tie.Need-read-event-requires Inv-loop μ-loop
 read-event-requires c κs = tt
@@ -39,10 +40,11 @@ returns : tie.Need-returns Inv-loop μ-loop
 returns c =
     let l = c .before .before .loop in
     let log = c .before .before .before .before .before .args .log .now in
-    ended (l .inv .1)
+    no-more
     (unrolled log (l .at)
     ∙ ap (λ (r : Reading). linedBy r (left log)) (sym (c .before .read-event .ensures))
     ∙ stopped (c .before .read-event .result) (left log) (c .match .keys2))
+    (l .inv .1)
 
 -- what was read: a line, and the lines from further on
 read :
@@ -64,8 +66,9 @@ ready :
 ready c =
     let log = c .before .before .before .before .before .before .before .args .log .now in
     let l = c .before .before .before .before .loop in
-    parted (lineOf (c .before .r .given .0 .0)) (left log (c .before .r .given .0 .1 .0)) (l .inv .1)
+    parted (lineOf (c .before .r .given .0 .0)) (left log (c .before .r .given .0 .1 .0))
     (unrolled log (l .at) ∙ ap (λ (r : Reading). linedBy r (left log)) (read c))
+    (l .inv .1)
 
 sub-put-line : tie.Need-sub-put-line Inv-loop μ-loop
 sub-put-line c = inside (ready c)
