@@ -1,16 +1,18 @@
 -- The rows of names hold the names. Assumes nothing.
-use Prim.Native.Nat.{ℕ, zero, suc, _+_, _*_, _≤_, _<_}
+use Prim.Native.Nat.{ℕ, zero, suc, _+_, _*_, _≤_, _<_, zero-le}
 use Prim.Native.String.{String}
 use native.Mathlib.Nat.{add-zero, zero-add}
 use native.Mathlib.Omega.{arith}
 use mathlib.Core.Path.{_≡_, refl, sym, ap, _∙_}
-use mathlib.Core.List.{List, [], _∷_, map}
+use mathlib.Core.List.{List, [], _∷_, _++_, map}
 use lib.ListN.{length, take, drop, getD, List·getD-eq-default}
+use lib.Seq.{getD-take, getD-drop}
 use borrow.Author.Tests.{lt-ltb, le-ltb}
+use Rattle.laws.proofs.Span.{span}
 use Rattle.registers.specs.declared.RegSpec.{RegSpec}
 use Rattle.telling.specs.Ascii.{ascii}
 use Rattle.telling.specs.Names.{quads, doubles, words, lows, bytes, lettersAt, cell}
-use Rattle.telling.specs.Words.{letters, named, names, nameOf}
+use Rattle.telling.specs.Words.{letters, text, named, names, nameOf}
 
 pub no-cell : (row : List ℕ) (k : ℕ) → length row < 5 * k + 5 → cell row k ≡ []
 unfolding cell
@@ -46,62 +48,43 @@ by-row row names n long e k =
     let h : length row ≡ 5 * (0 + n) = rw (zero-add n) long in
     ap (λ (t : List ℕ). letters t ∷ []) (sym (named-at names k) ∙ ap (λ (l : List (List ℕ)). getD l k []) (sym e) ∙ cell-at row 0 n k h ∙ ap (cell row) (zero-add k))
 
-abbrev quad-row : List ℕ
-quad-row = ascii "rax  rcx  rdx  rbx  rsp  rbp  rsi  rdi  r8   r9   r10  r11  r12  r13  r14  r15  "
+-- the names of the banks 0 to 4, one after the other, and the row that holds them
+abbrev generals : List String
+generals = quads ++ doubles ++ words ++ lows ++ bytes
 
-abbrev double-row : List ℕ
-double-row = ascii "eax  ecx  edx  ebx  esp  ebp  esi  edi  r8d  r9d  r10d r11d r12d r13d r14d r15d "
+abbrev general-row : List ℕ
+general-row =
+    ascii "rax  rcx  rdx  rbx  rsp  rbp  rsi  rdi  r8   r9   r10  r11  r12  r13  r14  r15  eax  ecx  edx  ebx  esp  ebp  esi  edi  r8d  r9d  r10d r11d r12d r13d r14d r15d ax   cx   dx   bx   sp   bp   si   di   r8w  r9w  r10w r11w r12w r13w r14w r15w al   cl   dl   bl   spl  bpl  sil  dil  r8b  r9b  r10b r11b r12b r13b r14b r15b al   cl   dl   bl   ah   ch   dh   bh   "
 
-abbrev word-row : List ℕ
-word-row = ascii "ax   cx   dx   bx   sp   bp   si   di   r8w  r9w  r10w r11w r12w r13w r14w r15w "
-
-abbrev low-row : List ℕ
-low-row = ascii "al   cl   dl   bl   spl  bpl  sil  dil  r8b  r9b  r10b r11b r12b r13b r14b r15b "
-
-abbrev byte-row : List ℕ
-byte-row = ascii "al   cl   dl   bl   ah   ch   dh   bh   "
-
-pub quad-name : (k : ℕ) → named quads k ≡ letters (cell quad-row k) ∷ []
+in-row : (k : ℕ) → named generals k ≡ letters (cell general-row k) ∷ []
 unfolding ascii cells cell lettersAt
-quad-name = by-row quad-row quads 16 refl refl
+in-row = by-row general-row generals 72 refl refl
 
-pub double-name : (k : ℕ) → named doubles k ≡ letters (cell double-row k) ∷ []
-unfolding ascii cells cell lettersAt
-double-name = by-row double-row doubles 16 refl refl
+-- a bank's names are sixteen of them
+of-bank : (bank k : ℕ) → k < 16 → named (take 16 (drop (16 * bank) generals)) k ≡ named generals (16 * bank + k)
+unfolding named
+of-bank bank k h = ap (λ (s : String). text s) (getD-take 16 (drop (16 * bank) generals) k "" h ∙ getD-drop (16 * bank) generals k "")
 
-pub word-name : (k : ℕ) → named words k ≡ letters (cell word-row k) ∷ []
-unfolding ascii cells cell lettersAt
-word-name = by-row word-row words 16 refl refl
-
-pub low-name : (k : ℕ) → named lows k ≡ letters (cell low-row k) ∷ []
-unfolding ascii cells cell lettersAt
-low-name = by-row low-row lows 16 refl refl
-
-pub byte-name : (k : ℕ) → named bytes k ≡ letters (cell byte-row k) ∷ []
-unfolding ascii cells cell lettersAt
-byte-name = by-row byte-row bytes 8 refl refl
+none : (names : List String) (k : ℕ) → length names ≤ k → named names k ≡ letters [] ∷ []
+unfolding named ascii
+none names k h = ap (λ (s : String). text s) (List·getD-eq-default names "" {n = k} h)
 
 -- the name of a register of each bank
 module _ (y : RegSpec) where
-  pub name-0 : y .bank ≡ 0 → nameOf y ≡ letters (cell quad-row (y .number)) ∷ []
+  pub general-name : y .bank < 5 → y .number < 16 → nameOf y ≡ letters (cell general-row (16 * y .bank + y .number)) ∷ []
   unfolding nameOf names
-  name-0 h = rw h (quad-name (y .number))
+  general-name b n =
+      span (λ (bank : ℕ). getD (names (y .number)) bank [] ≡ named (take 16 (drop (16 * bank) generals)) (y .number)) 0 5 (refl, (refl, (refl, (refl, (refl, tt))))) (y .bank) zero-le b
+      ∙ of-bank (y .bank) (y .number) n
+      ∙ in-row (16 * y .bank + y .number)
 
-  pub name-1 : y .bank ≡ 1 → nameOf y ≡ letters (cell double-row (y .number)) ∷ []
+  -- a general bank has no more than sixteen
+  pub no-general : y .bank < 5 → 16 ≤ y .number → nameOf y ≡ letters [] ∷ []
   unfolding nameOf names
-  name-1 h = rw h (double-name (y .number))
-
-  pub name-2 : y .bank ≡ 2 → nameOf y ≡ letters (cell word-row (y .number)) ∷ []
-  unfolding nameOf names
-  name-2 h = rw h (word-name (y .number))
-
-  pub name-3 : y .bank ≡ 3 → nameOf y ≡ letters (cell low-row (y .number)) ∷ []
-  unfolding nameOf names
-  name-3 h = rw h (low-name (y .number))
-
-  pub name-4 : y .bank ≡ 4 → nameOf y ≡ letters (cell byte-row (y .number)) ∷ []
-  unfolding nameOf names
-  name-4 h = rw h (byte-name (y .number))
+  no-general b n =
+      let k = y .number in
+      span (λ (bank : ℕ). getD (names k) bank [] ≡ letters [] ∷ []) 0 5
+      (none quads k n, (none doubles k n, (none words k n, (none lows k n, (none bytes k (omega arith), tt))))) (y .bank) zero-le b
 
   -- of any other, what the table says
   pub name-of : (bank : ℕ) → y .bank ≡ bank → nameOf y ≡ getD (names (y .number)) bank []

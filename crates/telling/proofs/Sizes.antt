@@ -1,17 +1,20 @@
 -- How many bytes the words take, at most. Assumes nothing.
+use Prim.Native.String.{String}
+use mathlib.Core.Bool.{true}
 use Prim.Native.Nat.{ℕ, zero, suc, _+_, _-_, _*_, _/_, _≤_}
 use native.Mathlib.Nat.{le-refl}
 use native.Mathlib.Omega.{arith}
-use mathlib.Core.Path.{_≡_, _∙_}
+use mathlib.Core.Path.{_≡_, refl, _∙_}
 use mathlib.Core.List.{List, [], _∷_}
-use lib.ListN.{length, take, drop, getD, length-take}
+use lib.ListN.{length, take, getD, length-take}
 use lib.Dec.{ltb, eqb}
+use borrow.Author.Tests.{ltb-true}
 use Rattle.laws.specs.Lists.{each, flat}
 use Rattle.laws.specs.Lending.{size}
 use Rattle.laws.proofs.Lending.{sizes, size-append, size-flat}
 use Rattle.laws.proofs.OneByOne.{one-size}
 use Rattle.laws.proofs.Choice.{either}
-use Rattle.laws.proofs.Every.{Every, every-at}
+use Rattle.laws.proofs.Every.{Every, every-at, tested, at}
 use Rattle.registers.specs.declared.RegSpec.{RegSpec}
 use Rattle.definition.specs.Readings.{readAt}
 use Rattle.definition.specs.declared.Event.{Event}
@@ -22,11 +25,10 @@ use Rattle.definition.specs.declared.Reading.{Reading}
 use Rattle.definition.specs.declared.Reading.the-variants.{Found, Bad, Finished}
 use Rattle.event.proofs.Fronts.{Moves, moves}
 use Rattle.telling.specs.Ascii.{ascii}
-use Rattle.telling.specs.Names.{lettersAt, cell}
-use Rattle.telling.specs.Words.{Word, letters, decimal, hex, places, wordBytes, text, numbered, names, nameOf, sizeOf, placeOf, registerLine, memoryLine, unknownLine, lineOf}
+use Rattle.telling.specs.Names.{quads, doubles, words, lows, bytes}
+use Rattle.telling.specs.Words.{Word, letters, decimal, hex, places, wordBytes, text, named, numbered, names, nameOf, sizeOf, placeOf, reads, writes, registerLine, memoryLine, unknownLine, lineOf}
 use Rattle.telling.specs.Reports.{linedBy, linesFrom, linesOf, logWords, around, answerWords}
 use Rattle.telling.proofs.Numbers.{long}
-use Rattle.telling.proofs.Cells.{quad-name, double-name, word-name, low-name, byte-name}
 
 places-few : (limit n : ℕ) → places limit n ≤ suc limit
 unfolding places
@@ -57,34 +59,23 @@ unfolding numbered
 numbered-size s n = omega (arith, size-append wordBytes (letters s ∷ []) (decimal n ∷ []), letters-size s, decimal-size n)
 
 -- names
-letters-few : (row : List ℕ) (at : ℕ) → lettersAt row at ≤ 4
-unfolding lettersAt
-letters-few row at =
-    let most : ℕ → Type 0 = λ n. n ≤ 4 in
-    either most (eqb (getD row (at + 2) 0) 32) 2 _ (λ e. omega arith) (λ e. either most (eqb (getD row (at + 3) 0) 32) 3 4 (λ e. omega arith) (λ e. omega arith))
-
-cell-few : (row : List ℕ) (k : ℕ) → length (cell row k) ≤ 4
-unfolding cell
-cell-few row k =
-    either (λ (l : List ℕ). length l ≤ 4) (ltb (length row) (5 * k + 5)) [] _ (λ e. omega arith)
-    (λ e. omega (arith, length-take (lettersAt row (5 * k)) (drop (5 * k) row), letters-few row (5 * k)))
-
--- a row's name, whichever row
-row-size : (ws : List Word) (row : List ℕ) (k : ℕ) → ws ≡ letters (cell row k) ∷ [] → size wordBytes ws ≤ 26
-row-size ws row k e = rw e (omega (arith, letters-size (cell row k), cell-few row k))
+short : (names : List String) → tested (λ i s. ltb (length (ascii s)) 5) 0 names ≡ true → (k : ℕ) → size wordBytes (named names k) ≤ 26
+unfolding named ascii
+short names t k =
+    omega (arith, letters-size (ascii (getD names k "")), ltb-true (length (ascii (getD names k ""))) 5 (at (λ i s. ltb (length (ascii s)) 5) names "" t (λ i. refl) k))
 
 names-size : (k : ℕ) → Every (λ (ws : List Word). size wordBytes ws ≤ 26) (names k)
 unfolding names ascii
 names-size k = (
-  row-size _ _ k (quad-name k),
+  short quads refl k,
   (
-    row-size _ _ k (double-name k),
+    short doubles refl k,
     (
-      row-size _ _ k (word-name k),
+      short words refl k,
       (
-        row-size _ _ k (low-name k),
+        short lows refl k,
         (
-          row-size _ _ k (byte-name k),
+          short bytes refl k,
           (
             omega (arith, numbered-size (ascii "xmm") k),
             (
@@ -151,12 +142,12 @@ module _ (way : List ℕ) (short : length way ≤ 8) where
 
 line-size : (e : Event) → size wordBytes (lineOf e) ≤ 64
 unfolding lineOf ascii
-line-size (RegisterRead y) = register-size (ascii "  read ") (omega arith) y
-line-size (RegisterWrite y) = register-size (ascii "  write ") (omega arith) y
-line-size (MemoryRead a n) = memory-size (ascii "  read ") (omega arith) a n
-line-size (MemoryWrite a n) = memory-size (ascii "  write ") (omega arith) a n
-line-size (UnknownRead n) = unknown-size (ascii "  read ") (omega arith) n
-line-size (UnknownWrite n) = unknown-size (ascii "  write ") (omega arith) n
+line-size (RegisterRead y) = register-size reads (omega arith) y
+line-size (RegisterWrite y) = register-size writes (omega arith) y
+line-size (MemoryRead a n) = memory-size reads (omega arith) a n
+line-size (MemoryWrite a n) = memory-size writes (omega arith) a n
+line-size (UnknownRead n) = unknown-size reads (omega arith) n
+line-size (UnknownWrite n) = unknown-size writes (omega arith) n
 
 -- logs: an event has a byte at least, and its line no more than 64
 read-size :

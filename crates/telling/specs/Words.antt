@@ -2,7 +2,7 @@
 use Prim.Native.Nat.{ℕ, zero, suc, _/_}
 use Prim.Native.String.{String}
 use mathlib.Core.List.{List, [], _∷_}
-use mathlib.Core.Bool.{cond}
+use mathlib.Core.Bool.{Bool, cond}
 use lib.ListN.{getD}
 use lib.Dec.{ltb, eqb}
 use Rattle.io.specs.Digits.{digits}
@@ -60,6 +60,16 @@ sizeOf n = cond (eqb n 1) (text "1 byte\n") (flat ((decimal n ∷ []) ∷ text "
 unfoldable pub placeOf : ℕ → List Word
 placeOf a = flat (text "[0x" ∷ (hex a ∷ []) ∷ text "] " ∷ [])
 
+-- what is done, at the start of a line
+abbrev pub reads : List ℕ
+reads = ascii "  read "
+
+abbrev pub writes : List ℕ
+writes = ascii "  write "
+
+unfoldable pub wayOf : Bool → List ℕ
+wayOf write = cond write writes reads
+
 -- a line for a register, for memory at an address, and at an unknown one
 unfoldable pub registerLine : List ℕ → RegSpec → List Word
 registerLine way y = flat ((letters way ∷ []) ∷ nameOf y ∷ text "\n" ∷ [])
@@ -71,9 +81,9 @@ unfoldable pub unknownLine : List ℕ → ℕ → List Word
 unknownLine way n = flat ((letters way ∷ []) ∷ text "[unknown] " ∷ sizeOf n ∷ [])
 
 unfoldable pub lineOf : Event → List Word
-lineOf (RegisterRead y) = registerLine (ascii "  read ") y
-lineOf (RegisterWrite y) = registerLine (ascii "  write ") y
-lineOf (MemoryRead a n) = memoryLine (ascii "  read ") a n
-lineOf (MemoryWrite a n) = memoryLine (ascii "  write ") a n
-lineOf (UnknownRead n) = unknownLine (ascii "  read ") n
-lineOf (UnknownWrite n) = unknownLine (ascii "  write ") n
+lineOf (RegisterRead y) = registerLine reads y
+lineOf (RegisterWrite y) = registerLine writes y
+lineOf (MemoryRead a n) = memoryLine reads a n
+lineOf (MemoryWrite a n) = memoryLine writes a n
+lineOf (UnknownRead n) = unknownLine reads n
+lineOf (UnknownWrite n) = unknownLine writes n

@@ -23,36 +23,29 @@ unfolding ascii placeOf
 one c = let s = c .before .before .before .before in first ((hex (s .args .address) ∷ []) ∷ (text "] ") ∷ []) (c .put .ensures) (s .pre) (s .good .0 .0)
 
 sub-put-hex : tie.Need-sub-put-hex
-unfolding ascii placeOf
 sub-put-hex c = inside (one (c .before .before))
 
 part-put-hex-start : tie.Need-part-put-hex-start
-unfolding ascii placeOf
 part-put-hex-start c = inside (one (c .before .before))
 
 part-put-hex-end : tie.Need-part-put-hex-end
 part-put-hex-end c = search needs
 
 put-hex-requires : tie.Need-put-hex-requires
-unfolding ascii placeOf
 put-hex-requires c κs = fits (one (c .before .before .before))
 
 add-b : tie.Need-add-b
-unfolding ascii placeOf
 add-b c = ends (one (c .before .before .before .before .before .before)) (c .before .before .put-hex .ensures)
 
 two :
     (c : tie.After-put-hex) → let s = c .before .before .before .before .before .before .before .before in
     Going wordBytes (placeOf (s .args .address)) ((text "] ") ∷ []) (now (s .args .out)) (back (c .before .before .before .before .put .last .0) (c .before .before .before .before .put .result) (c .put-hex .last .0)) ((c .before .before .before .before .put .result) + c .put-hex .result)
-unfolding ascii placeOf
 two c = next (one (c .before .before .before .before)) (c .put-hex .ensures)
 
 sub-put : tie.Need-sub-put
-unfolding ascii placeOf
 sub-put c = inside (two (c .before .before))
 
 part-put-start : tie.Need-part-put-start
-unfolding ascii placeOf
 part-put-start c = inside (two (c .before .before))
 
 part-put-end : tie.Need-part-put-end
@@ -62,18 +55,18 @@ slice-aggregate-put-2 : tie.Need-slice-aggregate-put-2
 slice-aggregate-put-2 c = search needs
 
 put-requires-2 : tie.Need-put-requires-2
-unfolding ascii placeOf
+unfolding ascii
 put-requires-2 c κs = fits (two (c .before .before .before .before))
 
 add-result : tie.Need-add-result
-unfolding ascii placeOf
+unfolding ascii
 add-result c = ends (two (c .before .before .before .before .before .before .before)) (c .before .before .put2 .ensures)
 
 same-length : tie.Need-same-length
 same-length c = search needs
 
 returns : tie.Need-returns
-unfolding ascii placeOf
+unfolding ascii
 returns c = whole (next (two (c .before .before .before .before .before .before .before)) (c .before .before .put2 .ensures))
 
 pub put-place-spec : {M : Type 1} → statement M

@@ -5,51 +5,44 @@ use borrow.Author.Needs.{needs}
 use denote.Ref.{now}
 use Rattle.laws.proofs.Lending.{back, Going, first, next, inside, fits, fits-first, ends, whole}
 use Rattle.telling.specs.Ascii.{ascii}
-use Rattle.telling.specs.Words.{letters, text, wordBytes, nameOf, registerLine}
+use Rattle.telling.specs.Words.{letters, text, wordBytes, wayOf, nameOf, registerLine}
 use Rattle.telling.proofs.lines.put_register.Statement.{statement}
 use Rattle.telling.proofs.lines.put_register.Tie as tie
 
-put-requires : tie.Need-put-requires
-unfolding ascii registerLine
-put-requires c κs = let s = c .before .before .before in fits-first wordBytes (letters (now (s .args .way)) ∷ []) ((nameOf (s .args .y)) ∷ (text "\n") ∷ []) (s .pre)
+put-way-requires : tie.Need-put-way-requires
+unfolding registerLine
+put-way-requires c κs = let s = c .before .before in fits-first wordBytes (letters (wayOf (s .args .write)) ∷ []) ((nameOf (s .args .y)) ∷ (text "\n") ∷ []) (s .pre)
 
 one :
-    (c : tie.After-put) → let s = c .before .before .before .before in
-    Going wordBytes (registerLine (now (s .args .way)) (s .args .y)) ((nameOf (s .args .y)) ∷ (text "\n") ∷ []) (now (s .args .out)) (c .put .last .0) (c .put .result)
-unfolding ascii registerLine
-one c = let s = c .before .before .before .before in first ((nameOf (s .args .y)) ∷ (text "\n") ∷ []) (c .put .ensures) (s .pre) (s .good .0 .0)
+    (c : tie.After-put-way) → let s = c .before .before .before in
+    Going wordBytes (registerLine (wayOf (s .args .write)) (s .args .y)) ((nameOf (s .args .y)) ∷ (text "\n") ∷ []) (now (s .args .out)) (c .put-way .last .0) (c .put-way .result)
+unfolding registerLine
+one c = let s = c .before .before .before in first ((nameOf (s .args .y)) ∷ (text "\n") ∷ []) (c .put-way .ensures) (s .pre) (s .good .0 .0)
 
 sub-put-name : tie.Need-sub-put-name
-unfolding ascii registerLine
 sub-put-name c = inside (one (c .before .before))
 
 part-put-name-start : tie.Need-part-put-name-start
-unfolding ascii registerLine
 part-put-name-start c = inside (one (c .before .before))
 
 part-put-name-end : tie.Need-part-put-name-end
 part-put-name-end c = search needs
 
 put-name-requires : tie.Need-put-name-requires
-unfolding ascii registerLine
 put-name-requires c κs = fits (one (c .before .before .before))
 
 add-b : tie.Need-add-b
-unfolding ascii registerLine
 add-b c = ends (one (c .before .before .before .before .before .before)) (c .before .before .put-name .ensures)
 
 two :
-    (c : tie.After-put-name) → let s = c .before .before .before .before .before .before .before .before in
-    Going wordBytes (registerLine (now (s .args .way)) (s .args .y)) ((text "\n") ∷ []) (now (s .args .out)) (back (c .before .before .before .before .put .last .0) (c .before .before .before .before .put .result) (c .put-name .last .0)) ((c .before .before .before .before .put .result) + c .put-name .result)
-unfolding ascii registerLine
+    (c : tie.After-put-name) → let s = c .before .before .before .before .before .before .before in
+    Going wordBytes (registerLine (wayOf (s .args .write)) (s .args .y)) ((text "\n") ∷ []) (now (s .args .out)) (back (c .before .before .before .before .put-way .last .0) (c .before .before .before .before .put-way .result) (c .put-name .last .0)) ((c .before .before .before .before .put-way .result) + c .put-name .result)
 two c = next (one (c .before .before .before .before)) (c .put-name .ensures)
 
 sub-put : tie.Need-sub-put
-unfolding ascii registerLine
 sub-put c = inside (two (c .before .before))
 
 part-put-start : tie.Need-part-put-start
-unfolding ascii registerLine
 part-put-start c = inside (two (c .before .before))
 
 part-put-end : tie.Need-part-put-end
@@ -58,26 +51,26 @@ part-put-end c = search needs
 slice-aggregate-put : tie.Need-slice-aggregate-put
 slice-aggregate-put c = search needs
 
-put-requires-2 : tie.Need-put-requires-2
-unfolding ascii registerLine
-put-requires-2 c κs = fits (two (c .before .before .before .before))
+put-requires : tie.Need-put-requires
+unfolding ascii
+put-requires c κs = fits (two (c .before .before .before .before))
 
 add-result : tie.Need-add-result
-unfolding ascii registerLine
-add-result c = ends (two (c .before .before .before .before .before .before .before)) (c .before .before .put2 .ensures)
+unfolding ascii
+add-result c = ends (two (c .before .before .before .before .before .before .before)) (c .before .before .put .ensures)
 
 same-length : tie.Need-same-length
 same-length c = search needs
 
 returns : tie.Need-returns
-unfolding ascii registerLine
-returns c = whole (next (two (c .before .before .before .before .before .before .before)) (c .before .before .put2 .ensures))
+unfolding ascii
+returns c = whole (next (two (c .before .before .before .before .before .before .before)) (c .before .before .put .ensures))
 
 pub put-register-spec : {M : Type 1} → statement M
 put-register-spec =
     tie.close
     (tie.spec
-    put-requires
+    put-way-requires
     sub-put-name
     part-put-name-start
     part-put-name-end
@@ -87,7 +80,7 @@ put-register-spec =
     part-put-start
     part-put-end
     slice-aggregate-put
-    put-requires-2
+    put-requires
     add-result
     same-length
     returns)

@@ -5,26 +5,24 @@ use borrow.Author.Needs.{needs}
 use denote.Ref.{now}
 use Rattle.laws.proofs.Lending.{back, Going, first, next, inside, fits, fits-first, ends, whole}
 use Rattle.telling.specs.Ascii.{ascii}
-use Rattle.telling.specs.Words.{letters, text, wordBytes, sizeOf, unknownLine}
+use Rattle.telling.specs.Words.{letters, text, wordBytes, wayOf, sizeOf, unknownLine}
 use Rattle.telling.proofs.lines.put_unknown.Statement.{statement}
 use Rattle.telling.proofs.lines.put_unknown.Tie as tie
 
-put-requires : tie.Need-put-requires
-unfolding ascii unknownLine
-put-requires c κs = let s = c .before .before .before in fits-first wordBytes (letters (now (s .args .way)) ∷ []) ((text "[unknown] ") ∷ (sizeOf (s .args .n)) ∷ []) (s .pre)
+put-way-requires : tie.Need-put-way-requires
+unfolding unknownLine
+put-way-requires c κs = let s = c .before .before in fits-first wordBytes (letters (wayOf (s .args .write)) ∷ []) ((text "[unknown] ") ∷ (sizeOf (s .args .n)) ∷ []) (s .pre)
 
 one :
-    (c : tie.After-put) → let s = c .before .before .before .before in
-    Going wordBytes (unknownLine (now (s .args .way)) (s .args .n)) ((text "[unknown] ") ∷ (sizeOf (s .args .n)) ∷ []) (now (s .args .out)) (c .put .last .0) (c .put .result)
-unfolding ascii unknownLine
-one c = let s = c .before .before .before .before in first ((text "[unknown] ") ∷ (sizeOf (s .args .n)) ∷ []) (c .put .ensures) (s .pre) (s .good .0 .0)
+    (c : tie.After-put-way) → let s = c .before .before .before in
+    Going wordBytes (unknownLine (wayOf (s .args .write)) (s .args .n)) ((text "[unknown] ") ∷ (sizeOf (s .args .n)) ∷ []) (now (s .args .out)) (c .put-way .last .0) (c .put-way .result)
+unfolding unknownLine
+one c = let s = c .before .before .before in first ((text "[unknown] ") ∷ (sizeOf (s .args .n)) ∷ []) (c .put-way .ensures) (s .pre) (s .good .0 .0)
 
 sub-put : tie.Need-sub-put
-unfolding ascii unknownLine
 sub-put c = inside (one (c .before .before))
 
 part-put-start : tie.Need-part-put-start
-unfolding ascii unknownLine
 part-put-start c = inside (one (c .before .before))
 
 part-put-end : tie.Need-part-put-end
@@ -33,56 +31,51 @@ part-put-end c = search needs
 slice-aggregate-put : tie.Need-slice-aggregate-put
 slice-aggregate-put c = search needs
 
-put-requires-2 : tie.Need-put-requires-2
-unfolding ascii unknownLine
-put-requires-2 c κs = fits (one (c .before .before .before .before))
+put-requires : tie.Need-put-requires
+unfolding ascii
+put-requires c κs = fits (one (c .before .before .before .before))
 
 add-b : tie.Need-add-b
-unfolding ascii unknownLine
-add-b c = ends (one (c .before .before .before .before .before .before .before)) (c .before .before .put2 .ensures)
+unfolding ascii
+add-b c = ends (one (c .before .before .before .before .before .before .before)) (c .before .before .put .ensures)
 
 two :
-    (c : tie.After-put2) → let s = c .before .before .before .before .before .before .before .before .before in
-    Going wordBytes (unknownLine (now (s .args .way)) (s .args .n)) ((sizeOf (s .args .n)) ∷ []) (now (s .args .out)) (back (c .before .before .before .before .before .put .last .0) (c .before .before .before .before .before .put .result) (c .put2 .last .0)) ((c .before .before .before .before .before .put .result) + c .put2 .result)
-unfolding ascii unknownLine
-two c = next (one (c .before .before .before .before .before)) (c .put2 .ensures)
+    (c : tie.After-put) → let s = c .before .before .before .before .before .before .before .before in
+    Going wordBytes (unknownLine (wayOf (s .args .write)) (s .args .n)) ((sizeOf (s .args .n)) ∷ []) (now (s .args .out)) (back (c .before .before .before .before .before .put-way .last .0) (c .before .before .before .before .before .put-way .result) (c .put .last .0)) ((c .before .before .before .before .before .put-way .result) + c .put .result)
+unfolding ascii
+two c = next (one (c .before .before .before .before .before)) (c .put .ensures)
 
 sub-put-size : tie.Need-sub-put-size
-unfolding ascii unknownLine
 sub-put-size c = inside (two (c .before .before))
 
 part-put-size-start : tie.Need-part-put-size-start
-unfolding ascii unknownLine
 part-put-size-start c = inside (two (c .before .before))
 
 part-put-size-end : tie.Need-part-put-size-end
 part-put-size-end c = search needs
 
 put-size-requires : tie.Need-put-size-requires
-unfolding ascii unknownLine
 put-size-requires c κs = fits (two (c .before .before .before))
 
 add-result : tie.Need-add-result
-unfolding ascii unknownLine
 add-result c = ends (two (c .before .before .before .before .before .before)) (c .before .before .put-size .ensures)
 
 same-length : tie.Need-same-length
 same-length c = search needs
 
 returns : tie.Need-returns
-unfolding ascii unknownLine
 returns c = whole (next (two (c .before .before .before .before .before .before)) (c .before .before .put-size .ensures))
 
 pub put-unknown-spec : {M : Type 1} → statement M
 put-unknown-spec =
     tie.close
     (tie.spec
-    put-requires
+    put-way-requires
     sub-put
     part-put-start
     part-put-end
     slice-aggregate-put
-    put-requires-2
+    put-requires
     add-b
     sub-put-size
     part-put-size-start

@@ -19,29 +19,24 @@ unfolding flat numbered
 one c = let s = c .before .before .before .before in first ((decimal (s .args .k) ∷ []) ∷ []) (c .put .ensures) (s .pre) (s .good .0 .0)
 
 sub-put-decimal : tie.Need-sub-put-decimal
-unfolding flat numbered
 sub-put-decimal c = inside (one (c .before .before))
 
 part-put-decimal-start : tie.Need-part-put-decimal-start
-unfolding flat numbered
 part-put-decimal-start c = inside (one (c .before .before))
 
 part-put-decimal-end : tie.Need-part-put-decimal-end
 part-put-decimal-end c = search needs
 
 put-decimal-requires : tie.Need-put-decimal-requires
-unfolding flat numbered
 put-decimal-requires c κs = fits (one (c .before .before .before))
 
 add-result : tie.Need-add-result
-unfolding flat numbered
 add-result c = ends (one (c .before .before .before .before .before .before)) (c .before .before .put-decimal .ensures)
 
 same-length : tie.Need-same-length
 same-length c = search needs
 
 returns : tie.Need-returns
-unfolding flat numbered
 returns c = whole (next (one (c .before .before .before .before .before .before)) (c .before .before .put-decimal .ensures))
 
 pub put-numbered-spec : {M : Type 1} → statement M

@@ -20,54 +20,44 @@ unfolding around
 one c = let s = c .before .before .before .before .before in first ((decimal (s .args .n) ∷ []) ∷ (letters (now (s .args .after)) ∷ []) ∷ []) (c .put .ensures) (s .pre) (s .good .0 .0)
 
 sub-put-decimal : tie.Need-sub-put-decimal
-unfolding around
 sub-put-decimal c = inside (one (c .before .before))
 
 part-put-decimal-start : tie.Need-part-put-decimal-start
-unfolding around
 part-put-decimal-start c = inside (one (c .before .before))
 
 part-put-decimal-end : tie.Need-part-put-decimal-end
 part-put-decimal-end c = search needs
 
 put-decimal-requires : tie.Need-put-decimal-requires
-unfolding around
 put-decimal-requires c κs = fits (one (c .before .before .before))
 
 add-b : tie.Need-add-b
-unfolding around
 add-b c = ends (one (c .before .before .before .before .before .before)) (c .before .before .put-decimal .ensures)
 
 two :
     (c : tie.After-put-decimal) → let s = c .before .before .before .before .before .before .before .before .before in
     Going wordBytes (around (now (s .args .before)) (s .args .n) (now (s .args .after))) ((letters (now (s .args .after)) ∷ []) ∷ []) (now (s .args .out)) (back (c .before .before .before .before .put .last .0) (c .before .before .before .before .put .result) (c .put-decimal .last .0)) ((c .before .before .before .before .put .result) + c .put-decimal .result)
-unfolding around
 two c = next (one (c .before .before .before .before)) (c .put-decimal .ensures)
 
 sub-put : tie.Need-sub-put
-unfolding around
 sub-put c = inside (two (c .before .before))
 
 part-put-start : tie.Need-part-put-start
-unfolding around
 part-put-start c = inside (two (c .before .before))
 
 part-put-end : tie.Need-part-put-end
 part-put-end c = search needs
 
 put-requires-2 : tie.Need-put-requires-2
-unfolding around
 put-requires-2 c κs = fits (two (c .before .before .before))
 
 add-result : tie.Need-add-result
-unfolding around
 add-result c = ends (two (c .before .before .before .before .before .before)) (c .before .before .put2 .ensures)
 
 same-length : tie.Need-same-length
 same-length c = search needs
 
 returns : tie.Need-returns
-unfolding around
 returns c = whole (next (two (c .before .before .before .before .before .before)) (c .before .before .put2 .ensures))
 
 pub put-around-spec : {M : Type 1} → statement M

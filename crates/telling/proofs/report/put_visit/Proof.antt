@@ -5,7 +5,7 @@ use mathlib.Core.List.{List}
 use Prim.Native.Nat.{ℕ}
 use lib.ListN.{length, replicate}
 use borrow.Author.Needs.{needs}
-use Rattle.definition.specs.Visits.{countOf}
+use Rattle.definition.specs.Visits.{visitOf, countOf}
 use Rattle.definition.specs.declared.Answer.{Answer}
 use Rattle.telling.specs.Reports.{outcomeWords, visitWords}
 use Rattle.telling.proofs.Sizes.{answer-size}
@@ -31,7 +31,7 @@ put-answer-requires c κs =
     let v = c .before .before .before in
     let s = c .before .before .before .before .before .before .before .before in (
       omega (arith, answer-size (v .visit-accesses .result) (v .visit-accesses .last .1 .1 .0), long v, s .pre),
-      omega (arith, visit-counts (s .args .b .now) (s .args .file .now) (replicate 177 0) 0, ap (λ (o : Answer × List ℕ). countOf (o .0)) (v .visit-accesses .ensures), long v),
+      omega (arith, visit-counts (s .args .b .now) (s .args .file .now) (replicate 177 0) 0, ap (λ (o : Answer × List ℕ). countOf (o .0)) {y = visitOf (s .args .b .now) (s .args .file .now) (replicate 177 0) 0} (v .visit-accesses .ensures), long v),
     )
 
 same-length : tie.Need-same-length
