@@ -1,10 +1,6 @@
 // show FILE..: shows which registers and which memory each record of a trace touches.
-mod lines; // lines.rt: the line of an event
-mod names; // names.rt: the name of a register
 mod problem; // problem.rt: what is wrong with a trace
-mod report; // report.rt: what a record touches
 mod trace; // trace.rt: the items of a trace
-mod words; // words.rt: the pieces of a line
 
 use libc::STDOUT_FILENO;
 
@@ -27,13 +23,9 @@ fn main() {
 fn asks_help() -> bool {
     let mut word = [0u8; 6];
     let n = os::arg(1, &mut word);
-    n == 6
-        && word[0] == b'-'
-        && word[1] == b'-'
-        && word[2] == b'h'
-        && word[3] == b'e'
-        && word[4] == b'l'
-        && word[5] == b'p'
+    let dashes = (word[0] == b'-') & (word[1] == b'-');
+    let name = (word[2] == b'h') & (word[3] == b'e') & (word[4] == b'l') & (word[5] == b'p');
+    (n == 6) & dashes & name
 }
 
 fn show_arguments(count: usize) {
@@ -70,67 +62,28 @@ fn show_file(path: &[u8], is_one_of_several: bool) {
 }
 
 fn say_help() {
-    io::write_all(STDOUT_FILENO, b"usage: show FILE..\n");
     io::write_all(
         STDOUT_FILENO,
-        b"Shows which registers and which memory each record of a trace touches, in order.\n",
-    );
-    io::write_all(STDOUT_FILENO, b"\n");
-    io::write_all(
-        STDOUT_FILENO,
-        b"A trace has register files (kind 0x20, 141 bytes) and records (kind 0x10, 40 bytes), one\n",
-    );
-    io::write_all(
-        STDOUT_FILENO,
-        b"after another. A record stands under the last register file before it. Records are counted\n",
-    );
-    io::write_all(
-        STDOUT_FILENO,
-        b"from 0. Under the number of each stand its accesses:\n",
-    );
-    io::write_all(STDOUT_FILENO, b"\n");
-    io::write_all(
-        STDOUT_FILENO,
-        b"  read rbx                            a register is read\n",
-    );
-    io::write_all(
-        STDOUT_FILENO,
-        b"  write [0x0000000000001008] 8 bytes  memory is written, from this address on\n",
-    );
-    io::write_all(
-        STDOUT_FILENO,
-        b"  write [unknown] 8 bytes             the same: a register of the address is not known\n",
-    );
-    io::write_all(
-        STDOUT_FILENO,
-        b"  touches nothing                     there is no access\n",
-    );
-    io::write_all(STDOUT_FILENO, b"\n");
-    io::write_all(STDOUT_FILENO, b"or why they cannot be told:\n");
-    io::write_all(STDOUT_FILENO, b"\n");
-    io::write_all(
-        STDOUT_FILENO,
-        b"  refused 2              a field of the record is outside its table\n",
-    );
-    io::write_all(
-        STDOUT_FILENO,
-        b"  refused 3              there is no register file before it\n",
-    );
-    io::write_all(
-        STDOUT_FILENO,
-        b"  refused 4 (opcode 24)  the instruction is complex: its accesses are no plain list\n",
-    );
-    io::write_all(
-        STDOUT_FILENO,
-        b"  refused 5              an operand that is accessed names no register and no memory\n",
-    );
-    io::write_all(
-        STDOUT_FILENO,
-        b"  refused 6              memory is accessed, and its size is 0\n",
-    );
-    io::write_all(STDOUT_FILENO, b"\n");
-    io::write_all(
-        STDOUT_FILENO,
-        b"The first broken item ends a trace, with a line that says where it stands and why.\n",
+        b"usage: show FILE..\n\
+        Shows which registers and which memory each record of a trace touches, in order.\n\
+        \n\
+        A trace has register files (kind 0x20, 141 bytes) and records (kind 0x10, 40 bytes), one\n\
+        after another. A record stands under the last register file before it. Records are counted\n\
+        from 0. Under the number of each stand its accesses:\n\
+        \n\
+        \x20 read rbx                            a register is read\n\
+        \x20 write [0x0000000000001008] 8 bytes  memory is written, from this address on\n\
+        \x20 write [unknown] 8 bytes             the same: a register of the address is not known\n\
+        \x20 touches nothing                     there is no access\n\
+        \n\
+        or why they cannot be told:\n\
+        \n\
+        \x20 refused 2              a field of the record is outside its table\n\
+        \x20 refused 3              there is no register file before it\n\
+        \x20 refused 4 (opcode 24)  the instruction is complex: its accesses are no plain list\n\
+        \x20 refused 5              an operand that is accessed names no register and no memory\n\
+        \x20 refused 6              memory is accessed, and its size is 0\n\
+        \n\
+        The first broken item ends a trace, with a line that says where it stands and why.\n",
     );
 }

@@ -1,5 +1,5 @@
 -- The measure is the number of turns that are left; place and records grow by no more than an item in each. Assumes nothing.
-use Prim.Native.Nat.{_-_, _+_, _*_, _≤_}
+use Prim.Native.Nat.{_+_, _*_, _≤_}
 use native.Mathlib.Omega.{arith}
 use mathlib.Core.Path.{_≡_, refl, _∙_}
 use lib.ListN.{length}
