@@ -1,6 +1,7 @@
 // show FILE..: shows which registers and which memory each record of a trace touches.
 mod problem; // problem.rt: what is wrong with a trace
 mod trace; // trace.rt: the items of a trace
+mod visit; // visit.rt: what a record touches
 
 use libc::STDOUT_FILENO;
 
@@ -23,9 +24,13 @@ fn main() {
 fn asks_help() -> bool {
     let mut word = [0u8; 6];
     let n = os::arg(1, &mut word);
-    let dashes = (word[0] == b'-') & (word[1] == b'-');
-    let name = (word[2] == b'h') & (word[3] == b'e') & (word[4] == b'l') & (word[5] == b'p');
-    (n == 6) & dashes & name
+    n == 6
+        && word[0] == b'-'
+        && word[1] == b'-'
+        && word[2] == b'h'
+        && word[3] == b'e'
+        && word[4] == b'l'
+        && word[5] == b'p'
 }
 
 fn show_arguments(count: usize) {

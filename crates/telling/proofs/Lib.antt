@@ -2,5 +2,4 @@ pub mod Cells
 pub mod Numbers
 pub mod Sizes
 pub mod Texts
-pub mod Visits
 pub mod Walks

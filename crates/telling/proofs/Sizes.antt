@@ -49,7 +49,7 @@ hex-size : (a : ℕ) → size wordBytes (hex a ∷ []) ≡ 16
 unfolding wordBytes
 hex-size a = one-size wordBytes (hex a) ∙ long 16 16 a
 
-around-size : (s : List ℕ) (n : ℕ) (t : List ℕ) → size wordBytes (around s n t) ≤ length s + 20 + length t
+pub around-size : (s : List ℕ) (n : ℕ) (t : List ℕ) → size wordBytes (around s n t) ≤ length s + 20 + length t
 unfolding around sizes
 around-size s n t =
     omega (arith, size-flat wordBytes ((letters s ∷ []) ∷ (decimal n ∷ []) ∷ (letters t ∷ []) ∷ []), letters-size s, decimal-size n, letters-size t)
@@ -175,7 +175,3 @@ unfolding answerWords ascii
 answer-size (Done n) l = omega (arith, log-size (take n l), length-take n l)
 answer-size (Refused k) l = omega (arith, around-size (ascii "  refused ") k (ascii "\n"))
 answer-size (Complex o) l = omega (arith, around-size (ascii "  refused 4 (opcode ") o (ascii ")\n"))
-
-pub number-size : (n : ℕ) → size wordBytes (around (ascii "record ") n (ascii "\n")) ≤ 64
-unfolding ascii
-number-size n = omega (arith, around-size (ascii "record ") n (ascii "\n"))

@@ -1,12 +1,11 @@
--- What a record touches, in words.
+-- What was answered of a record, in words.
 use Prim.Native.Nat.{ℕ, zero, suc}
 use mathlib.Core.List.{List, [], _∷_, _++_}
 use mathlib.Core.Bool.{cond}
-use lib.ListN.{length, take, replicate}
+use lib.ListN.{length, take}
 use lib.Dec.{eqb}
 use Rattle.laws.specs.Lists.{flat}
 use Rattle.definition.specs.Readings.{readAt}
-use Rattle.definition.specs.Visits.{visitOf}
 use Rattle.definition.specs.declared.Answer.{Answer}
 use Rattle.definition.specs.declared.Answer.the-variants.{Done, Refused, Complex}
 use Rattle.definition.specs.declared.Reading.{Reading}
@@ -40,14 +39,3 @@ unfoldable pub answerWords : Answer → List ℕ → List Word
 answerWords (Done n) log = logWords (take n log)
 answerWords (Refused k) log = around (ascii "  refused ") k (ascii "\n")
 answerWords (Complex opcode) log = around (ascii "  refused 4 (opcode ") opcode (ascii ")\n")
-
-abbrev pub outcomeWords : Answer × List ℕ → List Word
-outcomeWords o = answerWords (o .0) (o .1)
-
--- the visit of a record under a file, with room for the longest log
-unfoldable pub visitWords : List ℕ → List ℕ → List Word
-visitWords b file = outcomeWords (visitOf b file (replicate 177 0) 0)
-
--- a record, by its number in the trace
-unfoldable pub recordWords : ℕ → List ℕ → List ℕ → List Word
-recordWords number b file = around (ascii "record ") number (ascii "\n") ++ visitWords b file

@@ -1,4 +1,4 @@
-// What a record touches, in words.
+// What was answered of a record, in words.
 use crate::lines::put_line;
 use crate::words::put;
 use crate::words::put_decimal;
@@ -9,27 +9,10 @@ ghost use lib.ListN.{length};
 ghost use Rattle.laws.specs.Lending.{size, Logged};
 ghost use Rattle.definition.specs.Visits.{countOf};
 ghost use Rattle.telling.specs.Words.{wordBytes};
-ghost use Rattle.telling.specs.Reports.{around, linesOf, logWords, answerWords, visitWords, recordWords};
+ghost use Rattle.telling.specs.Reports.{around, linesOf, logWords, answerWords};
 
-// The record of a number, under a register file.
-pub fn put_record(out: &mut [u8], number: u64, b: &[u8], file: &[u8]) -> usize
-    requires { ⌜ 12288 ≤ length (now out) ⌝ }
-    ensures { λ r. ⌜ Logged wordBytes (recordWords number (now (b .entry)) (now (file .entry))) (now (out .entry)) (now (out .exit)) r ⌝ }
-{
-    let a = put_around(out, b"record ", number, b"\n");
-    a + put_visit(&mut out[a..], b, file)
-}
-
-fn put_visit(out: &mut [u8], b: &[u8], file: &[u8]) -> usize
-    requires { ⌜ 11392 ≤ length (now out) ⌝ }
-    ensures { λ r. ⌜ Logged wordBytes (visitWords (now (b .entry)) (now (file .entry))) (now (out .entry)) (now (out .exit)) r ⌝ }
-{
-    let mut log = [0u8; 177];
-    let answer = visiting::visit_accesses(b, file, &mut log, 0);
-    put_answer(out, answer, &log)
-}
-
-fn put_answer(out: &mut [u8], answer: Answer, log: &[u8]) -> usize
+// What visiting answered, and the log that it left.
+pub fn put_answer(out: &mut [u8], answer: Answer, log: &[u8]) -> usize
     requires { ⌜ size wordBytes (answerWords answer (now log)) ≤ length (now out) ⌝ }
     requires { ⌜ countOf answer ≤ length (now log) ⌝ }
     ensures { λ r. ⌜ Logged wordBytes (answerWords answer (now (log .entry))) (now (out .entry)) (now (out .exit)) r ⌝ }
@@ -69,7 +52,7 @@ fn put_events(out: &mut [u8], log: &[u8]) -> usize
 }
 
 // A number with text around it.
-fn put_around(out: &mut [u8], before: &[u8], n: u64, after: &[u8]) -> usize
+pub fn put_around(out: &mut [u8], before: &[u8], n: u64, after: &[u8]) -> usize
     requires { ⌜ size wordBytes (around (now before) n (now after)) ≤ length (now out) ⌝ }
     ensures { λ r. ⌜ Logged wordBytes (around (now (before .entry)) n (now (after .entry))) (now (out .entry)) (now (out .exit)) r ⌝ }
 {

@@ -2,7 +2,7 @@
 use mathlib.Core.Path.{sym}
 use lib.Seq.{length-take-le}
 use borrow.Author.Needs.{needs}
-use Rattle.telling.proofs.Visits.{within}
+use Rattle.show.proofs.Visits.{within}
 use Rattle.show.proofs.trace.print_record.Statement.{statement}
 use Rattle.show.proofs.trace.print_record.Tie as tie
 

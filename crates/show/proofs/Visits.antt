@@ -1,4 +1,4 @@
--- The log of a visit lies in its buffer. Assumes nothing.
+-- The log of a visit lies in its buffer, and the words of a record in theirs. Assumes nothing.
 use Prim.Native.Nat.{ℕ, _≤_}
 use native.Mathlib.Nat.{le-refl, le-trans}
 use native.Mathlib.Omega.{arith}
@@ -15,7 +15,10 @@ use Rattle.definition.specs.Visits.{fixedRecord, logOf, outcome, visitBy, visit
 use Rattle.definition.specs.declared.Answer.{Answer}
 use Rattle.definition.specs.declared.Answer.the-variants.{Done, Refused, Complex}
 use Rattle.definition.proofs.Bounds.{log-bytes}
+use Rattle.telling.specs.Ascii.{ascii}
 use Rattle.telling.specs.Words.{Word, wordBytes}
+use Rattle.telling.specs.Reports.{around}
+use Rattle.telling.proofs.Sizes.{around-size}
 
 counts : (number opcode : ℕ) (bytes buffer : List ℕ) (start : ℕ) → countOf (outcome number opcode bytes buffer start .0) ≤ length bytes
 unfolding outcome
@@ -35,3 +38,8 @@ within {ws} {old} l = omega (arith, l .count, ap length (l .bytes), length-appen
 pub at-most : {ws : List Word} {old new : List ℕ} {n : ℕ} (k : ℕ) → Logged wordBytes ws old new n → size wordBytes ws ≤ k → n ≤ k
 unfolding size
 at-most k l h = omega (arith, l .count)
+
+-- the number of a record
+pub number-size : (n : ℕ) → size wordBytes (around (ascii "record ") n (ascii "\n")) ≤ 64
+unfolding ascii
+number-size n = omega (arith, around-size (ascii "record ") n (ascii "\n"))

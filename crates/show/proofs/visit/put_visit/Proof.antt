@@ -7,11 +7,11 @@ use lib.ListN.{length, replicate}
 use borrow.Author.Needs.{needs}
 use Rattle.definition.specs.Visits.{visitOf, countOf}
 use Rattle.definition.specs.declared.Answer.{Answer}
-use Rattle.telling.specs.Reports.{outcomeWords, visitWords}
+use Rattle.show.specs.Visits.{outcomeWords, visitWords}
 use Rattle.telling.proofs.Sizes.{answer-size}
-use Rattle.telling.proofs.Visits.{visit-counts}
-use Rattle.telling.proofs.report.put_visit.Statement.{statement}
-use Rattle.telling.proofs.report.put_visit.Tie as tie
+use Rattle.show.proofs.Visits.{visit-counts}
+use Rattle.show.proofs.visit.put_visit.Statement.{statement}
+use Rattle.show.proofs.visit.put_visit.Tie as tie
 
 slice-aggregate-visit-accesses : tie.Need-slice-aggregate-visit-accesses
 slice-aggregate-visit-accesses c = search needs

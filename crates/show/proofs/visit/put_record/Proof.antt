@@ -3,12 +3,11 @@ use native.Mathlib.Omega.{arith}
 use native.Mathlib.Nat.{le-trans}
 use borrow.Author.Needs.{needs}
 use Rattle.laws.proofs.Lending.{on, part-length}
 use Rattle.telling.specs.Ascii.{ascii}
-use Rattle.telling.specs.Reports.{recordWords}
-use Rattle.telling.proofs.Sizes.{number-size}
-use Rattle.telling.proofs.Visits.{within, at-most}
-use Rattle.telling.proofs.report.put_record.Statement.{statement}
-use Rattle.telling.proofs.report.put_record.Tie as tie
+use Rattle.show.specs.Visits.{recordWords}
+use Rattle.show.proofs.Visits.{within, at-most, number-size}
+use Rattle.show.proofs.visit.put_record.Statement.{statement}
+use Rattle.show.proofs.visit.put_record.Tie as tie
 
 slice-aggregate-put-around : tie.Need-slice-aggregate-put-around
 slice-aggregate-put-around c = search needs
