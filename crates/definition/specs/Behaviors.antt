@@ -17,7 +17,7 @@ use Rattle.implicit.specs.Lists.{implicitOf}
 use Rattle.implicit.specs.Memory.{memoryEntry}
 use Rattle.record.specs.Records.{recordOf, recordRefusal, specAt, regAt, vexW, rexW, operandSize, addressSize}
 use Rattle.record.specs.declared.Record.{Record}
-use Rattle.definition.specs.Tables.{shapeOf, Rule, no-rule, mul, imul, div, nop, cmpxchg, movhalf, extrq, insertq, return, mulx, maskmov, pcmpestri, pcmpestrm, loop, bt, lea, ruleOf}
+use Rattle.definition.specs.Tables.{shapeOf, Rule, no-rule, mul, imul, div, nop, cmpxchg, movhalf, extrq, insertq, return, mulx, maskmov, pcmpestri, pcmpestrm, loop, ruleOf}
 use Rattle.definition.specs.declared.Shape.{Shape}
 use Rattle.definition.specs.declared.Shape.the-variants.{Nothing, Register, Fourth, Immediate, Memory}
 use Rattle.definition.specs.declared.PrivilegeAnswer.{PrivilegeAnswer}
@@ -72,8 +72,6 @@ fixUp maskmov x d = withList (cond (addressSize x) 15 16) d
 fixUp pcmpestri x d = withList (cond (vexW x) 18 17) d
 fixUp pcmpestrm x d = withList (cond (vexW x) 20 19) d
 fixUp loop x d = withList (cond (rexW x) 21 (cond (operandSize x) 22 23)) d
-fixUp bt x d = d
-fixUp lea x d = d
 
 -- the digest after fix-ups, which happen only where nontrivial is set
 unfoldable pub digestOf : Record → BehaviorDigest

@@ -55,9 +55,9 @@ shapeOf s = getD shapes s Nothing
 abbrev pub stringSpecs : List ℕ
 stringSpecs = 18 ∷ 20 ∷ 21 ∷ 22 ∷ 23 ∷ []
 
--- Opcodes 0 to 28: the rule of their own
+-- Opcodes 0 to 23: the rule by which each changes a digest. BT, BTS, BTR, BTC (24 to 27) and LEA (28) change none
 pub data Rule : Type 0 where
-  no-rule mul imul div nop cmpxchg movhalf extrq insertq return mulx maskmov pcmpestri pcmpestrm loop bt lea : Rule
+  no-rule mul imul div nop cmpxchg movhalf extrq insertq return mulx maskmov pcmpestri pcmpestrm loop : Rule
 
 abbrev pub rules : List Rule
 rules =
@@ -72,8 +72,6 @@ rules =
     ∷ pcmpestri ∷ pcmpestri ∷ pcmpestrm ∷ pcmpestrm
     -- LOOPNZ, LOOPZ, LOOP
     ∷ loop ∷ loop ∷ loop
-    -- BT, BTS, BTR, BTC, LEA
-    ∷ bt ∷ bt ∷ bt ∷ bt ∷ lea
     ∷ []
 
 unfoldable pub ruleOf : ℕ → Rule

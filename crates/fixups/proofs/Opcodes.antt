@@ -1,7 +1,5 @@
 -- The rule of an opcode, found by its number as a match finds it. Assumes nothing.
-use Prim.Native.Nat.{ℕ, zero-le, _+_, _-_, _≤_, _<_}
-use native.Mathlib.Nat.{eq-zero-or-pos}
-use native.Mathlib.Omega.{arith}
+use Prim.Native.Nat.{ℕ, zero-le, _+_, _≤_, _<_}
 use mathlib.Core.Path.{_≡_, refl}
 use mathlib.Core.Logic.{_⊎_, ⊎-elim}
 use lib.ListN.{List·getD-eq-default}
@@ -22,16 +20,10 @@ rule-span rule o lo n a h k = span-but (λ (k : ℕ). ruleOf k ≡ rule) o lo n 
 -- no other opcode's rule changes the digest
 pub unruled : (x : Record) (d : BehaviorDigest) (o : ℕ) → (o < 1) ⊎ (24 ≤ o) → d ≡ fixUp (ruleOf o) x d
 unfolding ruleOf fixUp
-unruled x d o = ⊎-elim (λ (h : o < 1). first h) (λ (h : 24 ≤ o). ⊎-elim (λ (e : o - 28 ≡ 0). bits h (omega arith)) (λ (l : 0 < o - 28). past (omega arith)) (eq-zero-or-pos (o - 28)))
+unruled x d o = ⊎-elim (λ (h : o < 1). first h) (λ (h : 24 ≤ o). past h)
   where
-    Same : ℕ → Type 0
-    Same k = d ≡ fixUp (ruleOf k) x d
+    first : o < 1 → d ≡ fixUp (ruleOf o) x d
+    first h = span (λ (k : ℕ). d ≡ fixUp (ruleOf k) x d) 0 1 (refl, tt) o zero-le h
 
-    first : o < 1 → Same o
-    first h = span Same 0 1 (refl, tt) o zero-le h
-
-    bits : 24 ≤ o → o < 29 → Same o
-    bits h k = span Same 24 5 (refl, (refl, (refl, (refl, (refl, tt))))) o h k
-
-    past : 29 ≤ o → Same o
+    past : 24 ≤ o → d ≡ fixUp (ruleOf o) x d
     past h = rw (List·getD-eq-default rules no-rule {n = o} h)

@@ -8,6 +8,7 @@ ghost use mathlib.Core.Bool.{cond};
 ghost use mathlib.Core.List.{_∷_, []};
 ghost use Prim.Native.Nat.{_≤_};
 ghost use lib.ListN.{length};
+ghost use Rattle.laws.specs.Lists.{flat};
 ghost use Rattle.laws.specs.Lending.{size, Logged};
 ghost use Rattle.definition.specs.Addresses.{termRegisters};
 ghost use Rattle.definition.specs.Steps.{maskRegisters};
@@ -60,15 +61,21 @@ pub fn put_address(log: &mut [u8], a: Address, m: u8) -> usize
     c + put_term(&mut log[c..], Way::Load, mask)
 }
 
+// The registers of two terms, one after the other.
+fn put_two(log: &mut [u8], way: Way, a: Term, then: Way, b: Term) -> usize
+    requires { ⌜ size eventBytes (flat (moved way (termRegisters a) ∷ moved then (termRegisters b) ∷ [])) ≤ length (now log) ⌝ }
+    ensures { λ r. ⌜ Logged eventBytes (flat (moved way (termRegisters a) ∷ moved then (termRegisters b) ∷ [])) (now (log .entry)) (now (log .exit)) r ⌝ }
+{
+    let n = put_term(log, way, a);
+    n + put_term(&mut log[n..], then, b)
+}
+
 // The read part of a register operand: the register, then the mask.
 fn put_read(log: &mut [u8], y: RegSpec, m: u8) -> usize
     requires { ⌜ size eventBytes (registerRead y m) ≤ length (now log) ⌝ }
     ensures { λ r. ⌜ Logged eventBytes (registerRead y m) (now (log .entry)) (now (log .exit)) r ⌝ }
 {
-    let register = Term::Plain(y);
-    let mask = mask_term(m);
-    let n = put_term(log, Way::Load, register);
-    n + put_term(&mut log[n..], Way::Load, mask)
+    put_two(log, Way::Load, Term::Plain(y), Way::Load, mask_term(m))
 }
 
 // Its write part under a mask: the mask, then the register.
@@ -76,10 +83,7 @@ fn put_masked_write(log: &mut [u8], y: RegSpec, m: u8) -> usize
     requires { ⌜ size eventBytes (maskedWrite y m) ≤ length (now log) ⌝ }
     ensures { λ r. ⌜ Logged eventBytes (maskedWrite y m) (now (log .entry)) (now (log .exit)) r ⌝ }
 {
-    let register = Term::Plain(y);
-    let mask = mask_term(m);
-    let n = put_term(log, Way::Load, mask);
-    n + put_term(&mut log[n..], Way::Store, register)
+    put_two(log, Way::Load, mask_term(m), Way::Store, Term::Plain(y))
 }
 
 // A write that no mask holds back zero-extends.

@@ -4,7 +4,7 @@ ghost use mathlib.Core.Bool.{cond};
 ghost use Prim.Native.Nat.{_<_, _/_, _%_, _^_};
 ghost use lib.ListN.{length, getD};
 ghost use lib.Dec.{ltb};
-ghost use Rattle.registers.specs.Banks.{reg, bankNumbers, loggedNumbers, isRegister, isLogged, widthOf};
+ghost use Rattle.registers.specs.Banks.{reg, bankNumbers, isRegister, isLogged, widthOf};
 ghost use Rattle.registers.specs.Files.{fileWith, fileOf, refusedFile, fileAnswer, slotOf, valueOf, after};
 ghost use Rattle.registers.specs.declared.Value.the-variants.{Known, Unknown};
 
@@ -40,11 +40,11 @@ impl RegSpec {
         number < bank_numbers(bank)
     }
 
-    // What an event may name is a table of its own.
+    // What an event may name: a test of its own, over the same banks today.
     pub fn is_logged(bank: u8, number: u8) -> bool
         ensures { λ r. ⌜ r ≡ isLogged bank number ⌝ }
     {
-        number < logged_numbers(bank)
+        number < bank_numbers(bank)
     }
 
     // How many bytes it has.
@@ -71,7 +71,7 @@ impl RegSpec {
     }
 }
 
-// How many registers each bank has, for records. An arm for each bank: the compiler makes one constant table of them, where an array would be
+// How many registers each bank has. An arm for each bank: the compiler makes one constant table of them, where an array would be
 // built at each call.
 fn bank_numbers(bank: u8) -> u8
     ensures { λ r. ⌜ r ≡ getD bankNumbers bank 0 ⌝ }
@@ -90,28 +90,6 @@ fn bank_numbers(bank: u8) -> u8
         10 => 1, // EIP
         11 => 1, // RFLAGS
         12 => 32, // other
-        _ => 0,
-    }
-}
-
-// The same for logged events.
-fn logged_numbers(bank: u8) -> u8
-    ensures { λ r. ⌜ r ≡ getD loggedNumbers bank 0 ⌝ }
-{
-    match bank {
-        0 => 16,
-        1 => 16,
-        2 => 16,
-        3 => 16,
-        4 => 8,
-        5 => 32,
-        6 => 32,
-        7 => 32,
-        8 => 8,
-        9 => 1,
-        10 => 1,
-        11 => 1,
-        12 => 32,
         _ => 0,
     }
 }

@@ -10,7 +10,7 @@ ghost use Rattle.replay.specs.Left.{leftAt};
 const NO_ANSWER: u64 = u64::MAX;
 
 // Whether the call answers what it must, and leaves what is lent as it must. `subject` is a record or a log.
-pub fn is_same(head: Head, subject: &[u8], file: &[u8], written: &[u8]) -> bool {
+pub(crate) fn is_same(head: Head, subject: &[u8], file: &[u8], written: &[u8]) -> bool {
     let mut buffer = [0xA5; 512];
     is_same_on(&mut buffer, head, subject, file, written)
 }

@@ -71,7 +71,7 @@ fn head_at(list: &[u8], at: usize) -> Head
 }
 
 // Whether the call of the case does what the list says.
-pub fn holds(list: &[u8], c: Case) -> bool
+pub(crate) fn holds(list: &[u8], c: Case) -> bool
     requires { ⌜ Parted (length (now list)) c ⌝ }
 {
     let head = c.head;

@@ -33,7 +33,7 @@ pub fn file(list: &[u8], k: u32) -> Part
 }
 
 // The place behind the first `count` files, or the list's end where it has fewer.
-pub fn behind(list: &[u8], count: u32) -> usize {
+pub(crate) fn behind(list: &[u8], count: u32) -> usize {
     let mut at = 16;
     let mut i = 0;
     while i < count {

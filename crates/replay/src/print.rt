@@ -2,17 +2,17 @@
 use crate::tally::Tally;
 use libc::STDOUT_FILENO;
 
-pub fn no_list() {
+pub(crate) fn no_list() {
     write(b"not a list of answers\n");
 }
 
-pub fn difference(number: u32, call: usize) {
+pub(crate) fn difference(number: u32, call: usize) {
     count(b"the first difference: case ", number as u64, b", ");
     name(call);
     write(b"\n");
 }
 
-pub fn tally(seen: Tally, cases: u32, end: usize) {
+pub(crate) fn tally(seen: Tally, cases: u32, end: usize) {
     let calls = seen.calls;
     line(1, calls[1]);
     line(2, calls[2]);

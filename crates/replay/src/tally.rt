@@ -30,7 +30,7 @@ impl Tally {
     }
 }
 
-pub fn replay_all(list: &[u8], first: usize, cases: u32) -> Tally {
+pub(crate) fn replay_all(list: &[u8], first: usize, cases: u32) -> Tally {
     let calls = [0; 7];
     let mut seen = Tally {
         at: first,

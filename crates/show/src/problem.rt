@@ -2,13 +2,13 @@
 use libc::STDOUT_FILENO;
 
 // The start of a line on an item that is broken; nothing after it is read, since nothing says where the next item would start.
-pub fn say_broken(at: u64) {
+pub(crate) fn say_broken(at: u64) {
     io::write_all(STDOUT_FILENO, b"broken at byte ");
     io::print_decimal(STDOUT_FILENO, at);
     io::write_all(STDOUT_FILENO, b", not read further: ");
 }
 
-pub fn say_unknown(at: u64, kind: u8) {
+pub(crate) fn say_unknown(at: u64, kind: u8) {
     say_broken(at);
     io::write_all(STDOUT_FILENO, b"unknown kind 0x");
     io::print_hex(STDOUT_FILENO, kind as u64, 2);
@@ -16,7 +16,7 @@ pub fn say_unknown(at: u64, kind: u8) {
 }
 
 // An item ended early: n bytes of its body were read. One read more tells an end from a failure.
-pub fn say_cut(fd: i32, at: u64, what: &[u8], n: usize) {
+pub(crate) fn say_cut(fd: i32, at: u64, what: &[u8], n: usize) {
     let mut one = [0u8; 1];
     if libc::read(fd, &mut one) < 0 {
         say_unread(at);
@@ -30,7 +30,7 @@ pub fn say_cut(fd: i32, at: u64, what: &[u8], n: usize) {
 }
 
 // A read failed just now.
-pub fn say_unread(at: u64) {
+pub(crate) fn say_unread(at: u64) {
     let error = os::errno();
     io::write_all(STDOUT_FILENO, b"cannot be read at byte ");
     io::print_decimal(STDOUT_FILENO, at);
@@ -38,7 +38,7 @@ pub fn say_unread(at: u64) {
 }
 
 // The file could not be opened just now.
-pub fn say_unopened(path: &[u8]) {
+pub(crate) fn say_unopened(path: &[u8]) {
     let error = os::errno();
     io::write_all(STDOUT_FILENO, path);
     io::write_all(STDOUT_FILENO, b": cannot be opened");

@@ -14,7 +14,7 @@ ghost use lib.ListN.{length};
 const MOST_ITEMS: u64 = 1099511627776;
 
 // Shows the items of an open trace, from its start to its end or to the first item that is broken.
-pub fn show_items(fd: i32) {
+pub(crate) fn show_items(fd: i32) {
     // No register file yet: its kind is 0, so that a record before the first file is refused with 3.
     let mut file = [0u8; 141];
     let mut at: u64 = 0;

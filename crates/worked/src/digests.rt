@@ -2,7 +2,7 @@
 use crate::rows::report;
 use crate::samples::*;
 
-pub fn run() {
+pub(crate) fn run() {
     loops();
     prefixes();
     widths();

@@ -2,7 +2,7 @@
 use crate::rows::report;
 use crate::visits::P2_LOG;
 
-pub fn run() {
+pub(crate) fn run() {
     whole();
     ends();
     kinds();

@@ -7,7 +7,7 @@ const GP: u64 = 0x2000_0000_0000;
 
 const PF: u64 = 0x4000_0000_0000;
 
-pub fn run() {
+pub(crate) fn run() {
     levels();
     memory();
     lists();

@@ -13,7 +13,7 @@ fn expected(place: usize, start: usize, bytes: &[u8]) -> u8 {
 }
 
 // Whether a buffer has these bytes from the start on, and is unchanged elsewhere.
-pub fn holds(buffer: &[u8; BUFFER], start: usize, bytes: &[u8]) -> bool {
+pub(crate) fn holds(buffer: &[u8; BUFFER], start: usize, bytes: &[u8]) -> bool {
     let mut place = 0;
     while place < BUFFER {
         if buffer[place] != expected(place, start, bytes) {
@@ -24,7 +24,7 @@ pub fn holds(buffer: &[u8; BUFFER], start: usize, bytes: &[u8]) -> bool {
     true
 }
 
-pub fn report(name: &[u8], right: bool) {
+pub(crate) fn report(name: &[u8], right: bool) {
     io::write_all(STDOUT_FILENO, name);
     if right {
         io::write_all(STDOUT_FILENO, b": ok\n");

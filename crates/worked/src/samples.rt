@@ -54,7 +54,7 @@ pub const X: u8 = 5;
 
 pub const EIP: u8 = 10;
 
-pub fn with(mut bytes: [u8; 40], place: usize, value: u8) -> [u8; 40] {
+pub(crate) fn with(mut bytes: [u8; 40], place: usize, value: u8) -> [u8; 40] {
     if place < 40 {
         bytes[place] = value;
     }
@@ -62,7 +62,7 @@ pub fn with(mut bytes: [u8; 40], place: usize, value: u8) -> [u8; 40] {
 }
 
 // No more than the first two specs.
-pub fn operands(count: u8, first: u8, second: u8, access: u8) -> [u8; 40] {
+pub(crate) fn operands(count: u8, first: u8, second: u8, access: u8) -> [u8; 40] {
     let mut bytes = [0u8; 40];
     bytes[0] = 0x10;
     bytes[1] = 40;
@@ -75,12 +75,12 @@ pub fn operands(count: u8, first: u8, second: u8, access: u8) -> [u8; 40] {
 }
 
 // No operand.
-pub fn plain() -> [u8; 40] {
+pub(crate) fn plain() -> [u8; 40] {
     operands(0, 0, 0, 0x01)
 }
 
 // An opcode with one operand.
-pub fn one(opcode: u8, behavior: u8, spec: u8) -> [u8; 40] {
+pub(crate) fn one(opcode: u8, behavior: u8, spec: u8) -> [u8; 40] {
     with(
         with(operands(1, spec, 0, 0x01), OPCODE, opcode),
         BEHAVIOR,
@@ -89,25 +89,25 @@ pub fn one(opcode: u8, behavior: u8, spec: u8) -> [u8; 40] {
 }
 
 // An implicit list, and no operand.
-pub fn listed(list: u8) -> [u8; 40] {
+pub(crate) fn listed(list: u8) -> [u8; 40] {
     with(plain(), LIST, list)
 }
 
 // Displacement 0xFFFFFFF8.
-pub fn minus_8(bytes: [u8; 40]) -> [u8; 40] {
+pub(crate) fn minus_8(bytes: [u8; 40]) -> [u8; 40] {
     let low = with(with(bytes, DISP, 0xF8), DISP + 1, 0xFF);
     with(with(low, DISP + 2, 0xFF), DISP + 3, 0xFF)
 }
 
 // A file that knows nothing.
-pub fn unknown() -> [u8; 141] {
+pub(crate) fn unknown() -> [u8; 141] {
     let mut bytes = [0u8; 141];
     bytes[0] = 0x20;
     bytes
 }
 
 // A file that knows one of the first eight registers more.
-pub fn knowing(mut bytes: [u8; 141], register: u8, value: u64) -> [u8; 141] {
+pub(crate) fn knowing(mut bytes: [u8; 141], register: u8, value: u64) -> [u8; 141] {
     if register < 8 {
         let place = 5 + 8 * (register as usize);
         laws::put_u64(&mut bytes[place..], value);

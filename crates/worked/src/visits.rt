@@ -4,7 +4,7 @@ use crate::rows::holds;
 use crate::rows::report;
 use crate::samples::*;
 
-pub fn run() {
+pub(crate) fn run() {
     registers();
     memory();
     addresses();

@@ -78,32 +78,43 @@ fn opcode_number(complex: ComplexOp) -> u16 {
     complex as u32 as u16
 }
 
-/// Writes what the given Rust reports as document 01's events.
-pub struct LogVisitor<'a> {
-    pub file: &'a RegisterFile,
-    pub log: Vec<u8>,
+/// Where the bytes of a log go.
+pub trait Sink {
+    fn put<const N: usize>(&mut self, bytes: [u8; N]);
 }
 
-impl LogVisitor<'_> {
+impl Sink for Vec<u8> {
+    fn put<const N: usize>(&mut self, bytes: [u8; N]) {
+        self.extend(bytes);
+    }
+}
+
+/// Writes what the given Rust reports as document 01's events.
+pub struct LogVisitor<'a, S> {
+    pub file: &'a RegisterFile,
+    pub log: S,
+}
+
+impl<S: Sink> LogVisitor<'_, S> {
     fn memory(&mut self, known_kind: u8, address: Option<u64>, size: u32) {
         match address {
             Some(address) => {
-                self.log.push(known_kind);
-                self.log.extend(address.to_le_bytes());
+                self.log.put([known_kind]);
+                self.log.put(address.to_le_bytes());
+                self.log.put([size as u8]);
             }
-            None => self.log.push(known_kind + 2),
+            None => self.log.put([known_kind + 2, size as u8]),
         }
-        self.log.push(size as u8);
     }
 }
 
-impl AccessVisitor for LogVisitor<'_> {
+impl<S: Sink> AccessVisitor for LogVisitor<'_, S> {
     fn register_read(&mut self, reg: RegSpec) {
-        self.log.extend([1, reg.bank as u8, reg.num]);
+        self.log.put([1, reg.bank as u8, reg.num]);
     }
 
     fn register_write(&mut self, reg: RegSpec) {
-        self.log.extend([2, reg.bank as u8, reg.num]);
+        self.log.put([2, reg.bank as u8, reg.num]);
     }
 
     /// A visitor that brings its own `get_register` must report the read itself.

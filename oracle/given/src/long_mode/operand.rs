@@ -2,11 +2,22 @@
 
 use super::RegSpec;
 
-/// How an operand is given; its number is its place in the table.
-#[allow(non_camel_case_types)]
-#[derive(Copy, Clone, Debug, PartialEq, Eq)]
-#[repr(u8)]
-pub enum OperandSpec {
+/// The table's rows, once: the specs, and the list that finds one by its number.
+macro_rules! specs {
+    ($($name:ident),* $(,)?) => {
+        /// How an operand is given; its number is its place in the table.
+        #[allow(non_camel_case_types)]
+        #[derive(Copy, Clone, Debug, PartialEq, Eq)]
+        #[repr(u8)]
+        pub enum OperandSpec {
+            $($name),*
+        }
+
+        const SPECS: [OperandSpec; 36] = [$(OperandSpec::$name),*];
+    };
+}
+
+specs! {
     Nothing,
     RegRRR,
     RegMMM,
@@ -46,45 +57,6 @@ pub enum OperandSpec {
 }
 
 use OperandSpec::*;
-
-const SPECS: [OperandSpec; 36] = [
-    Nothing,
-    RegRRR,
-    RegMMM,
-    RegVex,
-    Reg4,
-    RegRRR_maskmerge,
-    RegRRR_maskmerge_sae,
-    RegRRR_maskmerge_sae_noround,
-    RegMMM_maskmerge,
-    RegMMM_maskmerge_sae_noround,
-    RegVex_maskmerge,
-    ImmI8,
-    ImmU8,
-    ImmI16,
-    ImmU16,
-    ImmI32,
-    ImmI64,
-    ImmInDispField,
-    Deref,
-    Deref_mask,
-    Deref_rdi,
-    Deref_rsi,
-    Deref_edi,
-    Deref_esi,
-    Disp,
-    Disp_mask,
-    MemIndexScale,
-    MemIndexScale_mask,
-    MemIndexScaleDisp,
-    MemIndexScaleDisp_mask,
-    MemBaseIndexScale,
-    MemBaseIndexScale_mask,
-    MemBaseIndexScaleDisp,
-    MemBaseIndexScaleDisp_mask,
-    DispU64,
-    DispU32,
-];
 
 impl OperandSpec {
     /// The spec of a number in the table.
