@@ -20,7 +20,7 @@ use Rattle.registers.specs.declared.Value.the-variants.{Known, Unknown}
 use Rattle.digest.specs.Digests.{flagsAccess}
 use Rattle.implicit.specs.Lists.{implicits, implicitOf}
 use Rattle.implicit.specs.declared.Way.{Way}
-use Rattle.implicit.specs.declared.Way.the-variants.{Load, Store}
+use Rattle.implicit.specs.declared.Way.the-variants.{Read, Write}
 use Rattle.implicit.specs.declared.ImplicitOperand.{ImplicitOperand}
 use Rattle.implicit.specs.declared.ImplicitOperand.the-variants as implied
 use Rattle.implicit.specs.declared.Entry.{Entry}
@@ -31,7 +31,7 @@ use Rattle.definition.specs.Limits.{mostEvents, mostBytes}
 use Rattle.definition.specs.Tables.{shapeOf, stringSpecs}
 use Rattle.definition.specs.Behaviors.{Operand, operandAt, operandsOf}
 use Rattle.definition.specs.Addresses.{termRegisters, registersOf, addressOf, baseOf, operandAddress}
-use Rattle.definition.specs.Steps.{Step, reads, writes, touches, moves, maskRegisters, maskFor, isLea, rflags, readPart, writePart, operandSteps, shapeBase, slotRegisters, implicitStep, entrySteps, flagSteps, stepsOf}
+use Rattle.definition.specs.Steps.{Step, reads, writes, touches, registerStep, maskRegisters, maskFor, isLea, rflags, readPart, writePart, operandSteps, shapeBase, slotRegisters, implicitStep, entrySteps, flagSteps, stepsOf}
 use Rattle.definition.specs.Logs.{memoryEvent, stepEvents, eventsOf, eventBytes, bytesOf, stepBytes}
 use Rattle.definition.specs.declared.Address.{Address}
 use Rattle.definition.specs.declared.Term.{Term}
@@ -71,10 +71,10 @@ entryCost n m entries.End = 0
 module _ (n m : ℕ) where
   memory-cost : (w : Way) (v : Value) (s : ℕ) → eventCost n m (memoryEvent w v s) ≡ m
   unfolding memoryEvent
-  memory-cost Load (Known a) s = refl
-  memory-cost Load Unknown s = refl
-  memory-cost Store (Known a) s = refl
-  memory-cost Store Unknown s = refl
+  memory-cost Read (Known a) s = refl
+  memory-cost Read Unknown s = refl
+  memory-cost Write (Known a) s = refl
+  memory-cost Write Unknown s = refl
 
   step-cost : (f : RegisterFile) (s : Step) → weigh (eventCost n m) (stepEvents f s) ≤ stepCost n m s
   unfolding stepEvents flat
@@ -152,13 +152,13 @@ module _ (n m : ℕ) where
   slot-cost x i =
       simp weigh-cond (cond-le (isIn (specAt x i) stringSpecs) (term-cost (baseOf x (shapeBase (shapeOf (specAt x i))))) zero-le)
 
-  moves-cost : (w : Way) (y : RegSpec) → stepCost n m (moves w y) ≡ n
-  moves-cost Load y = refl
-  moves-cost Store y = refl
+  register-step-cost : (w : Way) (y : RegSpec) → stepCost n m (registerStep w y) ≡ n
+  register-step-cost Read y = refl
+  register-step-cost Write y = refl
 
   implied-cost : (size : ℕ) (w : Way) (o : ImplicitOperand) → stepCost n m (implicitStep size w o) ≤ operandCost n m o
   unfolding implicitStep registersOf termRegisters maskRegisters
-  implied-cost size w (implied.Register y) = simp moves-cost (le-refl n)
+  implied-cost size w (implied.Register y) = simp register-step-cost (le-refl n)
   implied-cost size w (implied.MemDeref y) = omega arith
   implied-cost size w (implied.Disp y k) = omega arith
   implied-cost size w (implied.MemBaseIndexScale y z k) = omega arith
@@ -166,7 +166,7 @@ module _ (n m : ℕ) where
   entry-cost : (x : Record) (e : Entry) → weigh (stepCost n m) (entrySteps x e) ≤ entryCost n m e
   unfolding entrySteps
   entry-cost x (entries.Operand o w) = omega (arith, implied-cost (x .size) w o)
-  entry-cost x (entries.Slot i w) = simp (weigh-map, moves-cost) (slot-cost x i)
+  entry-cost x (entries.Slot i w) = simp (weigh-map, register-step-cost) (slot-cost x i)
   entry-cost x entries.End = zero-le
 
   -- where no implicit list costs over k, which antt computes

@@ -9,12 +9,12 @@ use Rattle.laws.specs.Tests.{firstOf}
 use Rattle.laws.specs.Lists.{each, flat}
 use Rattle.access.specs.Accesses.{accessNumber, accessOf}
 use Rattle.access.specs.declared.Access.{Access}
-use Rattle.access.specs.declared.Access.the-variants.{Read, Write}
+use Rattle.access.specs.declared.Access.the-variants as accesses
 use Rattle.registers.specs.declared.RegSpec.{RegSpec}
 use Rattle.digest.specs.Digests.{accessAt, flagsAccess}
 use Rattle.implicit.specs.Lists.{implicitOf, rdi}
 use Rattle.implicit.specs.declared.Way.{Way}
-use Rattle.implicit.specs.declared.Way.the-variants.{Load, Store}
+use Rattle.implicit.specs.declared.Way.the-variants.{Read, Write}
 use Rattle.implicit.specs.declared.ImplicitOperand.{ImplicitOperand}
 use Rattle.implicit.specs.declared.ImplicitOperand.the-variants.{Register, MemDeref, Disp, MemBaseIndexScale}
 use Rattle.implicit.specs.declared.Entry.{Entry}
@@ -29,8 +29,8 @@ use Rattle.definition.specs.declared.Item.the-variants.{Flags, Implicit,
 use Rattle.definition.specs.declared.Answer.{Answer}
 
 abbrev pub wayAccess : Way → Access
-wayAccess Load = Read
-wayAccess Store = Write
+wayAccess Read = accesses.Read
+wayAccess Write = accesses.Write
 
 -- Deref_rdi lists as MemDeref rdi
 unfoldable pub entryItems : Entry → List Item

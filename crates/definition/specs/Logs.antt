@@ -8,17 +8,17 @@ use Rattle.registers.specs.declared.RegisterFile.{RegisterFile}
 use Rattle.registers.specs.declared.Value.{Value}
 use Rattle.registers.specs.declared.Value.the-variants.{Known, Unknown}
 use Rattle.implicit.specs.declared.Way.{Way}
-use Rattle.implicit.specs.declared.Way.the-variants.{Load, Store}
+use Rattle.implicit.specs.declared.Way.the-variants.{Read, Write}
 use Rattle.definition.specs.Addresses.{registersOf, addressOf}
 use Rattle.definition.specs.Steps.{maskRegisters, Step, reads, writes, touches}
 use Rattle.definition.specs.declared.Event.{Event}
 use Rattle.definition.specs.declared.Event.the-variants.{RegisterRead, RegisterWrite, MemoryRead, MemoryWrite, UnknownRead, UnknownWrite}
 
 unfoldable pub memoryEvent : Way → Value → ℕ → Event
-memoryEvent Load (Known a) n = MemoryRead a n
-memoryEvent Load Unknown n = UnknownRead n
-memoryEvent Store (Known a) n = MemoryWrite a n
-memoryEvent Store Unknown n = UnknownWrite n
+memoryEvent Read (Known a) n = MemoryRead a n
+memoryEvent Read Unknown n = UnknownRead n
+memoryEvent Write (Known a) n = MemoryWrite a n
+memoryEvent Write Unknown n = UnknownWrite n
 
 -- all registers of an address are logged, whether they are known or not
 unfoldable pub stepEvents : RegisterFile → Step → List Event

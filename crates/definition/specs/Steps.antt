@@ -12,7 +12,7 @@ use Rattle.registers.specs.declared.RegSpec.{RegSpec}
 use Rattle.digest.specs.Digests.{flagsAccess}
 use Rattle.implicit.specs.Lists.{implicitOf}
 use Rattle.implicit.specs.declared.Way.{Way}
-use Rattle.implicit.specs.declared.Way.the-variants.{Load, Store}
+use Rattle.implicit.specs.declared.Way.the-variants.{Read, Write}
 use Rattle.implicit.specs.declared.ImplicitOperand.{ImplicitOperand}
 use Rattle.implicit.specs.declared.ImplicitOperand.the-variants as implied
 use Rattle.implicit.specs.declared.Entry.{Entry}
@@ -35,9 +35,9 @@ pub data Step : Type 0 where
   -- the address's registers are read, then the mask by its number, then so many bytes of memory are touched
   touches : Way → Address → ℕ → ℕ → Step
 
-abbrev pub moves : Way → RegSpec → Step
-moves Load y = reads y
-moves Store y = writes y
+abbrev pub registerStep : Way → RegSpec → Step
+registerStep Read y = reads y
+registerStep Write y = writes y
 
 -- Mask 0 is never logged
 unfoldable pub maskRegisters : ℕ → List RegSpec
@@ -70,7 +70,7 @@ readPart x Immediate = []
 readPart x (Memory b i d m) =
     cond (isLea x)
     (map reads (registersOf (operandAddress x b i d)) ++ maskSteps (maskFor x m))
-    (touches Load (operandAddress x b i d) (maskFor x m) (x .size) ∷ [])
+    (touches Read (operandAddress x b i d) (maskFor x m) (x .size) ∷ [])
 
 unfoldable pub writePart : Record → Shape → List Step
 writePart x Nothing = []
@@ -78,7 +78,7 @@ writePart x (Register i false) = writes (widened (regAt x i)) ∷ []
 writePart x (Register i true) = maskSteps (x .mask) ++ (writes (regAt x i) ∷ [])
 writePart x Fourth = writes (widened (fourthOf x)) ∷ []
 writePart x Immediate = []
-writePart x (Memory b i d m) = touches Store (operandAddress x b i d) (maskFor x m) (x .size) ∷ []
+writePart x (Memory b i d m) = touches Write (operandAddress x b i d) (maskFor x m) (x .size) ∷ []
 
 -- its read part, then its write part
 unfoldable pub operandSteps : Record → Operand → List Step
@@ -101,7 +101,7 @@ unfoldable pub slotRegisters : Record → ℕ → List RegSpec
 slotRegisters x i = cond (isIn (specAt x i) stringSpecs) (termRegisters (baseOf x (shapeBase (shapeOf (specAt x i))))) []
 
 unfoldable pub implicitStep : ℕ → Way → ImplicitOperand → Step
-implicitStep size w (implied.Register y) = moves w y
+implicitStep size w (implied.Register y) = registerStep w y
 implicitStep size w (implied.MemDeref y) = touches w (record { base = Plain y; index = Absent; offset = 0 }) 0 size
 implicitStep size w (implied.Disp y n) = touches w (record { base = Plain y; index = Absent; offset = signed32 n }) 0 size
 implicitStep size w (implied.MemBaseIndexScale y z k) = touches w (record { base = Plain y; index = Scaled z k; offset = 0 }) 0 size
@@ -109,7 +109,7 @@ implicitStep size w (implied.MemBaseIndexScale y z k) = touches w (record { base
 -- a string slot logs its register and no memory
 unfoldable pub entrySteps : Record → Entry → List Step
 entrySteps x (entries.Operand o w) = implicitStep (x .size) w o ∷ []
-entrySteps x (entries.Slot i w) = map (moves w) (slotRegisters x i)
+entrySteps x (entries.Slot i w) = map (registerStep w) (slotRegisters x i)
 entrySteps x entries.End = []
 
 abbrev pub rflags : RegSpec

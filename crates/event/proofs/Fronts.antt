@@ -81,9 +81,9 @@ moved l at (Found e n) w = let s = length-drop at l in (omega arith, omega arith
 moved l at (Bad k) w = tt
 moved l at Finished w = let s = length-drop at l in omega arith
 
-pub moves : (l : List ℕ) (at : ℕ) → Moves l at (readAt l at)
+pub goes-on : (l : List ℕ) (at : ℕ) → Moves l at (readAt l at)
 unfolding readAt
-moves l at = moved l at (readFront (drop at l)) (within (drop at l))
+goes-on l at = moved l at (readFront (drop at l)) (within (drop at l))
 
 -- at or past the end
 pub finished : (l : List ℕ) (at : ℕ) → length l ≤ at → readAt l at ≡ Finished

@@ -14,7 +14,7 @@ use Rattle.definition.specs.Readings.{readFront, readAt, Reads}
 use Rattle.definition.proofs.RoundTrip.{round-trip, log-round-trip}
 use Rattle.event.specs.Held.{Held}
 use Rattle.event.specs.declared.walk.Counted.the-variants.{All}
-use Rattle.event.specs.Counts.{countOf}
+use Rattle.event.specs.Counts.{countedOf}
 use Rattle.event.proofs.Walks.{reads-count}
 
 pub front-round : (e : Event) (post : List ℕ) → Held e → readFront (eventBytes e ++ post) ≡ Found e (length (eventBytes e))
@@ -37,5 +37,5 @@ written-read e {old} w h =
 pub log-round : (es : List Event) → Every Held es → Reads (bytesOf es) es
 log-round es h = log-round-trip Held (λ e h. h .good) (λ a n h. h .fits) (λ a n h. h .fits) es h
 
-pub log-counted : (es : List Event) → Every Held es → countOf (bytesOf es) ≡ All (length es)
+pub log-counted : (es : List Event) → Every Held es → countedOf (bytesOf es) ≡ All (length es)
 log-counted es h = reads-count (bytesOf es) es (log-round es h)

@@ -15,8 +15,8 @@ use Rattle.definition.specs.declared.Reading.the-variants.{Found, Bad, Finished
 use Rattle.definition.specs.Readings.{readAt, Reads, end, next}
 use Rattle.event.specs.declared.walk.Counted.{Counted}
 use Rattle.event.specs.declared.walk.Counted.the-variants.{All}
-use Rattle.event.specs.Counts.{counted, endOf, countFrom, countOf}
-use Rattle.event.proofs.Fronts.{Moves, moves, finished, front-empty}
+use Rattle.event.specs.Counts.{counted, endOf, countFrom, countedOf}
+use Rattle.event.proofs.Fronts.{Moves, goes-on, finished, front-empty}
 
 -- the rest of a walk goes by what was read
 same :
@@ -33,15 +33,15 @@ fuel zero zero l at n h h′ = refl
 fuel zero (suc j) l at n h h′ = rw (finished l at (omega arith))
 fuel (suc i) zero l at n h h′ = rw (finished l at (omega arith))
 fuel (suc i) (suc j) l at n h h′ =
-    same l at n (λ k. countFrom i l k (n + 1)) (λ k. countFrom j l k (n + 1)) (readAt l at) (moves l at)
+    same l at n (λ k. countFrom i l k (n + 1)) (λ k. countFrom j l k (n + 1)) (readAt l at) (goes-on l at)
     (λ k m o. fuel i j l k (n + 1) (omega arith) (omega arith))
 
 -- the events from a place on
 abbrev pub left : List ℕ → ℕ → ℕ → Counted
 left l at n = countFrom (length l - at) l at n
 
-pub whole : (l : List ℕ) → countOf l ≡ left l 0 0
-unfolding countOf
+pub whole : (l : List ℕ) → countedOf l ≡ left l 0 0
+unfolding countedOf
 whole l = rw (sub-zero (length l))
 
 -- one reading more
@@ -49,7 +49,7 @@ pub unrolled : (l : List ℕ) (at n : ℕ) → left l at n ≡ counted (readAt l
 unfolding countFrom
 unrolled l at n =
     fuel (length l - at) (suc (length l)) l at n (omega arith) (omega arith)
-    ∙ same l at n (λ k. countFrom (length l) l k (n + 1)) (λ k. left l k (n + 1)) (readAt l at) (moves l at)
+    ∙ same l at n (λ k. countFrom (length l) l k (n + 1)) (λ k. left l k (n + 1)) (readAt l at) (goes-on l at)
     (λ k m o. fuel (length l) (length l - k) l k (n + 1) (omega arith) (omega arith))
 
 -- no event was read
@@ -67,5 +67,5 @@ reads-from {es = x ∷ es} (next m r rest) l at n e =
     let q : n + 1 + length es ≡ n + suc (length es) = omega arith in
     unrolled l at n ∙ rw (e, r, ← q) (reads-from rest l (at + m) (n + 1) (rw (p, e)))
 
-pub reads-count : (l : List ℕ) (es : List Event) → Reads l es → countOf l ≡ All (length es)
+pub reads-count : (l : List ℕ) (es : List Event) → Reads l es → countedOf l ≡ All (length es)
 reads-count l es r = whole l ∙ reads-from r l 0 0 refl ∙ ap All (omega arith)

@@ -23,5 +23,5 @@ countFrom zero l at n = All n
 countFrom (suc fuel) l at n = counted (readAt l at) (λ next. countFrom fuel l next (n + 1)) n
 
 -- how many events a log has, or why it does not read whole
-unfoldable pub countOf : List ℕ → Counted
-countOf l = countFrom (length l) l 0 0
+unfoldable pub countedOf : List ℕ → Counted
+countedOf l = countFrom (length l) l 0 0

@@ -2,7 +2,7 @@
 use crate::reader::read_event;
 use definition::Reading;
 ghost use mathlib.Core.Path.{_≡_};
-ghost use Rattle.event.specs.Counts.{countOf, endOf};
+ghost use Rattle.event.specs.Counts.{countedOf, endOf};
 
 // How many events a log has, or why it does not read whole.
 pub enum Counted {
@@ -11,7 +11,7 @@ pub enum Counted {
 }
 
 pub fn count_events(log: &[u8]) -> Counted
-    ensures { λ r. ⌜ r ≡ countOf (now (log .entry)) ⌝ }
+    ensures { λ r. ⌜ r ≡ countedOf (now (log .entry)) ⌝ }
 {
     let mut at = 0;
     let mut n = 0;

@@ -31,11 +31,11 @@ pub fn put_memory(log: &mut [u8], way: Way, at: Value, n: u8) -> usize
     ensures { λ r. ⌜ Logged eventBytes (memoryEvent way at n ∷ []) (now (log .entry)) (now (log .exit)) r ⌝ }
 {
     match way {
-        Way::Load => match at {
+        Way::Read => match at {
             Value::Known(a) => put_known(log, 3, a, n),
             Value::Unknown => put_unknown(log, 5, n),
         },
-        Way::Store => match at {
+        Way::Write => match at {
             Value::Known(a) => put_known(log, 4, a, n),
             Value::Unknown => put_unknown(log, 6, n),
         },

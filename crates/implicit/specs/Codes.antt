@@ -6,7 +6,7 @@ use lib.ListN.{getD}
 use Rattle.registers.specs.Banks.{reg}
 use Rattle.registers.specs.declared.RegSpec.{RegSpec}
 use Rattle.implicit.specs.declared.Way.{Way}
-use Rattle.implicit.specs.declared.Way.the-variants.{Load, Store}
+use Rattle.implicit.specs.declared.Way.the-variants.{Read, Write}
 use Rattle.implicit.specs.declared.ImplicitOperand.the-variants.{Register, MemDeref, Disp, MemBaseIndexScale}
 use Rattle.implicit.specs.declared.Entry.{Entry}
 use Rattle.implicit.specs.declared.Entry.the-variants.{Operand, Slot, End}
@@ -16,14 +16,14 @@ use Rattle.implicit.specs.Lists.{al, minus8, implicits}
 abbrev pub forms : RegSpec → List Entry
 forms x =
     End
-    ∷ Operand (Register x) Load
-    ∷ Operand (Register x) Store
-    ∷ Operand (MemDeref x) Load
-    ∷ Operand (MemDeref x) Store
-    ∷ Operand (Disp x minus8) Store
-    ∷ Operand (MemBaseIndexScale x al 1) Load
-    ∷ Slot (x .number) Load
-    ∷ Slot (x .number) Store
+    ∷ Operand (Register x) Read
+    ∷ Operand (Register x) Write
+    ∷ Operand (MemDeref x) Read
+    ∷ Operand (MemDeref x) Write
+    ∷ Operand (Disp x minus8) Write
+    ∷ Operand (MemBaseIndexScale x al 1) Read
+    ∷ Slot (x .number) Read
+    ∷ Slot (x .number) Write
     ∷ []
 
 abbrev pub registerIn : ℕ → RegSpec
@@ -38,8 +38,8 @@ abbrev pub codeWith : ℕ → RegSpec → ℕ
 codeWith form x = 256 * form + 16 * x .bank + x .number
 
 abbrev pub byWay : Way → ℕ
-byWay Load = 0
-byWay Store = 1
+byWay Read = 0
+byWay Write = 1
 
 abbrev pub codeOf : Entry → ℕ
 codeOf (Operand (Register x) way) = codeWith (1 + byWay way) x

@@ -5,7 +5,7 @@ use lib.ListN.{getD}
 use Rattle.registers.specs.Banks.{reg}
 use Rattle.registers.specs.declared.RegSpec.{RegSpec}
 use Rattle.implicit.specs.declared.Way.{Way}
-use Rattle.implicit.specs.declared.Way.the-variants.{Load, Store}
+use Rattle.implicit.specs.declared.Way.the-variants.{Read, Write}
 use Rattle.implicit.specs.declared.ImplicitOperand.{ImplicitOperand}
 use Rattle.implicit.specs.declared.ImplicitOperand.the-variants.{Register, MemDeref, Disp, MemBaseIndexScale}
 use Rattle.implicit.specs.declared.Entry.{Entry}
@@ -64,10 +64,10 @@ xmm0 = reg 5 0
 
 -- r and w: a register read or written
 abbrev r : RegSpec → Entry
-r x = Operand (Register x) Load
+r x = Operand (Register x) Read
 
 abbrev w : RegSpec → Entry
-w x = Operand (Register x) Store
+w x = Operand (Register x) Write
 
 -- a displacement of 4 bytes, below 0 as two to the 32 less
 abbrev pub minus8 : ℕ
@@ -95,8 +95,8 @@ implicits =
     ∷ (r edx ∷ [])
     ∷ (r rdx ∷ [])
     -- VMASKMOVDQU
-    ∷ (Operand (MemDeref edi) Store ∷ [])
-    ∷ (Operand (MemDeref rdi) Store ∷ [])
+    ∷ (Operand (MemDeref edi) Write ∷ [])
+    ∷ (Operand (MemDeref rdi) Write ∷ [])
     -- PCMPESTRI, PCMPESTRM
     ∷ (r eax ∷ r edx ∷ w rcx ∷ [])
     ∷ (r rax ∷ r rdx ∷ w rcx ∷ [])
@@ -107,12 +107,12 @@ implicits =
     ∷ (r cx ∷ w cx ∷ [])
     ∷ (r ecx ∷ w rcx ∷ [])
     -- String
-    ∷ (Slot 0 Load ∷ Slot 0 Store ∷ [])
-    ∷ (Slot 0 Load ∷ Slot 0 Store ∷ Slot 1 Load ∷ Slot 1 Store ∷ [])
+    ∷ (Slot 0 Read ∷ Slot 0 Write ∷ [])
+    ∷ (Slot 0 Read ∷ Slot 0 Write ∷ Slot 1 Read ∷ Slot 1 Write ∷ [])
     -- Push, pop, XLAT
-    ∷ (r rsp ∷ w rsp ∷ Operand (Disp rsp minus8) Store ∷ [])
-    ∷ (r rsp ∷ w rsp ∷ Operand (MemDeref rsp) Load ∷ [])
-    ∷ (Operand (MemBaseIndexScale rbx al 1) Load ∷ [])
+    ∷ (r rsp ∷ w rsp ∷ Operand (Disp rsp minus8) Write ∷ [])
+    ∷ (r rsp ∷ w rsp ∷ Operand (MemDeref rsp) Read ∷ [])
+    ∷ (Operand (MemBaseIndexScale rbx al 1) Read ∷ [])
     ∷ []
 
 -- the entries of a list; a list above 28 has none

@@ -5,14 +5,14 @@ use Rattle.implicit.specs.declared.ImplicitOperand.the-variants.{Registe
 use Rattle.implicit.specs.declared.Entry.{Entry}
 use Rattle.implicit.specs.declared.Entry.the-variants.{Operand, Slot, End}
 
-abbrev pub memoryOperand : ImplicitOperand → Bool
-memoryOperand (Register x) = false
-memoryOperand (MemDeref x) = true
-memoryOperand (Disp x d) = true
-memoryOperand (MemBaseIndexScale x y s) = true
+abbrev pub memoryForm : ImplicitOperand → Bool
+memoryForm (Register x) = false
+memoryForm (MemDeref x) = true
+memoryForm (Disp x d) = true
+memoryForm (MemBaseIndexScale x y s) = true
 
 -- the slot of a string instruction is Deref_rdi
 abbrev pub memoryEntry : Entry → Bool
-memoryEntry (Operand o way) = memoryOperand o
+memoryEntry (Operand o way) = memoryForm o
 memoryEntry (Slot n way) = true
 memoryEntry End = false

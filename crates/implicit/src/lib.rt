@@ -4,12 +4,12 @@ ghost use mathlib.Core.Path.{_≡_};
 ghost use Rattle.laws.specs.Tests.{any};
 ghost use Rattle.implicit.specs.Codes.{entryOf, rowOf};
 ghost use Rattle.implicit.specs.Lists.{implicitOf, entryAt};
-ghost use Rattle.implicit.specs.Memory.{memoryOperand, memoryEntry};
+ghost use Rattle.implicit.specs.Memory.{memoryForm, memoryEntry};
 
 // An entry reads or writes.
 pub enum Way {
-    Load,
-    Store,
+    Read,
+    Write,
 }
 
 // One of four operand forms. A displacement below 0 is held as two to the 32 less.
@@ -90,14 +90,14 @@ fn entry_of(code: u16) -> Entry
     };
     let al = RegSpec { bank: 4, number: 0 };
     match code / 256 {
-        1 => Entry::Operand(ImplicitOperand::Register(x), Way::Load),
-        2 => Entry::Operand(ImplicitOperand::Register(x), Way::Store),
-        3 => Entry::Operand(ImplicitOperand::MemDeref(x), Way::Load),
-        4 => Entry::Operand(ImplicitOperand::MemDeref(x), Way::Store),
-        5 => Entry::Operand(ImplicitOperand::Disp(x, MINUS_8), Way::Store),
-        6 => Entry::Operand(ImplicitOperand::MemBaseIndexScale(x, al, 1), Way::Load),
-        7 => Entry::Slot(number, Way::Load),
-        8 => Entry::Slot(number, Way::Store),
+        1 => Entry::Operand(ImplicitOperand::Register(x), Way::Read),
+        2 => Entry::Operand(ImplicitOperand::Register(x), Way::Write),
+        3 => Entry::Operand(ImplicitOperand::MemDeref(x), Way::Read),
+        4 => Entry::Operand(ImplicitOperand::MemDeref(x), Way::Write),
+        5 => Entry::Operand(ImplicitOperand::Disp(x, MINUS_8), Way::Write),
+        6 => Entry::Operand(ImplicitOperand::MemBaseIndexScale(x, al, 1), Way::Read),
+        7 => Entry::Slot(number, Way::Read),
+        8 => Entry::Slot(number, Way::Write),
         _ => Entry::End,
     }
 }
@@ -113,8 +113,8 @@ pub fn implicit_entry(list: u16, i: u8) -> Entry
     entry_of((rest % 65536) as u16)
 }
 
-fn is_memory_operand(o: ImplicitOperand) -> bool
-    ensures { λ r. ⌜ r ≡ memoryOperand o ⌝ }
+fn is_memory_form(o: ImplicitOperand) -> bool
+    ensures { λ r. ⌜ r ≡ memoryForm o ⌝ }
 {
     match o {
         ImplicitOperand::Register(_) => false,
@@ -128,7 +128,7 @@ pub fn is_memory(e: Entry) -> bool
     ensures { λ r. ⌜ r ≡ memoryEntry e ⌝ }
 {
     match e {
-        Entry::Operand(o, _) => is_memory_operand(o),
+        Entry::Operand(o, _) => is_memory_form(o),
         Entry::Slot(_, _) => true,
         Entry::End => false,
     }

@@ -92,8 +92,8 @@ fn access_of(way: Way) -> Access
     ensures { λ r. ⌜ r ≡ wayAccess way ⌝ }
 {
     match way {
-        Way::Load => Access::Read,
-        Way::Store => Access::Write,
+        Way::Read => Access::Read,
+        Way::Write => Access::Write,
     }
 }
 

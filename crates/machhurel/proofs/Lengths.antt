@@ -8,7 +8,7 @@ use lib.ListN.{length, getD, drop}
 use lib.Dec.{ltb, eqb}
 use Rattle.laws.proofs.Choice.{either}
 use Rattle.laws.proofs.Every.{every-at}
-use Rattle.event.proofs.Fronts.{moves}
+use Rattle.event.proofs.Fronts.{goes-on}
 use Rattle.definition.specs.Readings.{bodyOf, frontEvent, isEvent, readFront, readAt, placed}
 use Rattle.definition.specs.declared.Event.{Event}
 use Rattle.definition.specs.declared.Reading.{Reading}
@@ -44,6 +44,6 @@ pub leads-on :
     (l : List ℕ) (at : ℕ) {e : Event} {next : ℕ}
     → readAt l at ≡ Found e next → (at < next) × ((next - at ≤ most) × (at + lengthFrom at (readAt l at) ≡ next))
 leads-on l at {e} {next} r =
-    let ends = (rw r at (moves l at)) .0 in
+    let ends = (rw r at (goes-on l at)) .0 in
     let short = rw r at (length-most l at) in
     (ends, (short, rw r (omega arith)))

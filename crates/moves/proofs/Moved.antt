@@ -5,7 +5,7 @@ use mathlib.Core.List.{List, [], _∷_, _++_, map-append, append-assoc, append-n
 use Rattle.laws.specs.Lists.{flat}
 use Rattle.registers.specs.declared.RegSpec.{RegSpec}
 use Rattle.implicit.specs.declared.Way.{Way}
-use Rattle.implicit.specs.declared.Way.the-variants.{Load}
+use Rattle.implicit.specs.declared.Way.the-variants.{Read}
 use Rattle.definition.specs.Addresses.{termRegisters, registersOf}
 use Rattle.definition.specs.Steps.{maskRegisters}
 use Rattle.definition.specs.declared.Address.{Address}
@@ -22,6 +22,6 @@ moved-cons w y ys = rw (append-nil (moved w ys))
 -- base, index, mask
 pub reads-split :
     (a : Address) (m : ℕ)
-    → touchReads a m ≡ flat (moved Load (termRegisters (a .base)) ∷ moved Load (termRegisters (a .index)) ∷ moved Load (maskRegisters m) ∷ [])
+    → touchReads a m ≡ flat (moved Read (termRegisters (a .base)) ∷ moved Read (termRegisters (a .index)) ∷ moved Read (maskRegisters m) ∷ [])
 unfolding touchReads registersOf flat
 reads-split a m = simp (moved-append, append-assoc, append-nil)

@@ -31,8 +31,8 @@ pub fn put_move(log: &mut [u8], way: Way, y: RegSpec) -> usize
     ensures { λ r. ⌜ Logged eventBytes (moved way (y ∷ [])) (now (log .entry)) (now (log .exit)) r ⌝ }
 {
     match way {
-        Way::Load => event::put_register_read(log, y),
-        Way::Store => event::put_register_write(log, y),
+        Way::Read => event::put_register_read(log, y),
+        Way::Write => event::put_register_write(log, y),
     }
 }
 
@@ -56,9 +56,9 @@ pub fn put_address(log: &mut [u8], a: Address, m: u8) -> usize
     let base = a.base;
     let index = a.index;
     let mask = mask_term(m);
-    let b = put_term(log, Way::Load, base);
-    let c = b + put_term(&mut log[b..], Way::Load, index);
-    c + put_term(&mut log[c..], Way::Load, mask)
+    let b = put_term(log, Way::Read, base);
+    let c = b + put_term(&mut log[b..], Way::Read, index);
+    c + put_term(&mut log[c..], Way::Read, mask)
 }
 
 // The registers of two terms, one after the other.
@@ -75,7 +75,7 @@ fn put_read(log: &mut [u8], y: RegSpec, m: u8) -> usize
     requires { ⌜ size eventBytes (registerRead y m) ≤ length (now log) ⌝ }
     ensures { λ r. ⌜ Logged eventBytes (registerRead y m) (now (log .entry)) (now (log .exit)) r ⌝ }
 {
-    put_two(log, Way::Load, Term::Plain(y), Way::Load, mask_term(m))
+    put_two(log, Way::Read, Term::Plain(y), Way::Read, mask_term(m))
 }
 
 // Its write part under a mask: the mask, then the register.
@@ -83,7 +83,7 @@ fn put_masked_write(log: &mut [u8], y: RegSpec, m: u8) -> usize
     requires { ⌜ size eventBytes (maskedWrite y m) ≤ length (now log) ⌝ }
     ensures { λ r. ⌜ Logged eventBytes (maskedWrite y m) (now (log .entry)) (now (log .exit)) r ⌝ }
 {
-    put_two(log, Way::Load, mask_term(m), Way::Store, Term::Plain(y))
+    put_two(log, Way::Read, mask_term(m), Way::Write, Term::Plain(y))
 }
 
 // A write that no mask holds back zero-extends.
@@ -95,7 +95,7 @@ fn put_write(log: &mut [u8], y: RegSpec, masked: bool, m: u8) -> usize
     if masked {
         put_masked_write(log, y, m)
     } else {
-        put_move(log, Way::Store, wide)
+        put_move(log, Way::Write, wide)
     }
 }
 

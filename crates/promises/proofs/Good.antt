@@ -22,7 +22,7 @@ use Rattle.registers.specs.declared.Value.the-variants.{Known, Unknown}
 use Rattle.digest.specs.Digests.{flagsAccess}
 use Rattle.implicit.specs.Lists.{implicits, implicitOf}
 use Rattle.implicit.specs.declared.Way.{Way}
-use Rattle.implicit.specs.declared.Way.the-variants.{Load, Store}
+use Rattle.implicit.specs.declared.Way.the-variants.{Read, Write}
 use Rattle.implicit.specs.declared.ImplicitOperand.{ImplicitOperand}
 use Rattle.implicit.specs.declared.ImplicitOperand.the-variants as implied
 use Rattle.implicit.specs.declared.Entry.{Entry}
@@ -32,7 +32,7 @@ use Rattle.record.specs.declared.Record.{Record}
 use Rattle.definition.specs.Tables.{shapes, shapeOf, stringSpecs}
 use Rattle.definition.specs.Behaviors.{fixedUp, Operand, operandAt, operandsOf, isMemory}
 use Rattle.definition.specs.Addresses.{termRegisters, registersOf, termOf, placeOf, addressOf, baseOf, indexOf, operandAddress}
-use Rattle.definition.specs.Steps.{Step, reads, writes, touches, moves, maskRegisters, maskFor, maskSteps, isLea, fourthOf, widened, readPart, writePart, operandSteps, shapeBase, slotRegisters, implicitStep, entrySteps, rflags, flagSteps, stepsOf}
+use Rattle.definition.specs.Steps.{Step, reads, writes, touches, registerStep, maskRegisters, maskFor, maskSteps, isLea, fourthOf, widened, readPart, writePart, operandSteps, shapeBase, slotRegisters, implicitStep, entrySteps, rflags, flagSteps, stepsOf}
 use Rattle.definition.specs.Logs.{memoryEvent, stepEvents, eventsOf}
 use Rattle.definition.specs.Refusals.{accessed, unnamed, nameless, sizeless}
 use Rattle.definition.specs.Readings.{isEvent, isSize}
@@ -77,10 +77,10 @@ address-small f a = after-small (termOf f (a .base)) _ (λ u. after-small (termO
 
 memory-good : (w : Way) (v : Value) (n : ℕ) → Small v → isSize n ≡ true → GoodEvent (memoryEvent w v n)
 unfolding isEvent memoryEvent
-memory-good Load (Known a) n h s = (s, h)
-memory-good Load Unknown n h s = (s, tt)
-memory-good Store (Known a) n h s = (s, h)
-memory-good Store Unknown n h s = (s, tt)
+memory-good Read (Known a) n h s = (s, h)
+memory-good Read Unknown n h s = (s, tt)
+memory-good Write (Known a) n h s = (s, h)
+memory-good Write Unknown n h s = (s, tt)
 
 reads-good : (ys : List RegSpec) → Every Good ys → Every GoodEvent (map RegisterRead ys)
 unfolding isEvent
@@ -301,13 +301,13 @@ module _ (x : Record) (s : Sound x) where
         go true e = cc (or-right (accessed isMemory x) (isIn (x .digest .extra) memoryLists) (none-sized e))
         go false e = size-good e
 
-    moves-good : (w : Way) (y : RegSpec) → Good y → GoodStep (moves w y)
-    moves-good Load y g = g
-    moves-good Store y g = g
+    register-step-good : (w : Way) (y : RegSpec) → Good y → GoodStep (registerStep w y)
+    register-step-good Read y g = g
+    register-step-good Write y g = g
 
     implied-good : (w : Way) (o : ImplicitOperand) → operandTest (x .digest .extra) o ≡ true → GoodStep (implicitStep (x .size) w o)
     unfolding implicitStep registersOf termRegisters maskRegisters
-    implied-good w (implied.Register y) h = moves-good w y h
+    implied-good w (implied.Register y) h = register-step-good w y h
     implied-good w (implied.MemDeref y) h = ((and-left (registerTest y) _ h, tt), tt, list-sized (and-right (registerTest y) _ h))
     implied-good w (implied.Disp y n) h = ((and-left (registerTest y) _ h, tt), tt, list-sized (and-right (registerTest y) _ h))
     implied-good w (implied.MemBaseIndexScale y z n) h =
@@ -326,7 +326,7 @@ module _ (x : Record) (s : Sound x) where
     entry-good : (e : Entry) → entryTest (x .digest .extra) e ≡ true → Every GoodStep (entrySteps x e)
     unfolding entrySteps
     entry-good (entries.Operand o w) h = (implied-good w o h, tt)
-    entry-good (entries.Slot i w) h = every-map GoodStep (moves w) (slotRegisters x i) (every-weaken Good _ (moves-good w) (slotRegisters x i) (slot-good i))
+    entry-good (entries.Slot i w) h = every-map GoodStep (registerStep w) (slotRegisters x i) (every-weaken Good _ (register-step-good w) (slotRegisters x i) (slot-good i))
     entry-good entries.End h = tt
 
     flags-good : (a : ℕ) → Every GoodStep (flagSteps a)

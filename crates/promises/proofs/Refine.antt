@@ -4,13 +4,13 @@ use Prim.Native.Nat.{ℕ}
 use mathlib.Core.Path.{_≡_, refl, ap₂}
 use mathlib.Core.List.{List, [], _∷_, _++_, map, List·Memᴰ, List·Memᴰ·head, Memᴰ·append-left, Memᴰ·append-right, Memᴰ·map}
 use Rattle.laws.specs.Lists.{each, flat}
-use Rattle.registers.specs.Files.{partOf, slotOf, after, readPart, valueOf}
+use Rattle.registers.specs.Files.{partOf, slotOf, after, partValue, valueOf}
 use Rattle.registers.specs.declared.RegSpec.{RegSpec}
 use Rattle.registers.specs.declared.RegisterFile.{RegisterFile}
 use Rattle.registers.specs.declared.Value.{Value}
 use Rattle.registers.specs.declared.Value.the-variants.{Known, Unknown}
 use Rattle.implicit.specs.declared.Way.{Way}
-use Rattle.implicit.specs.declared.Way.the-variants.{Load, Store}
+use Rattle.implicit.specs.declared.Way.the-variants.{Read, Write}
 use Rattle.definition.specs.Addresses.{termRegisters, registersOf, termOf, addressOf}
 use Rattle.definition.specs.Steps.{maskRegisters, Step, reads, writes, touches}
 use Rattle.definition.specs.Logs.{memoryEvent, stepEvents, eventsOf}
@@ -39,17 +39,17 @@ all-append (one h p) q = one h (all-append p q)
 
 memory-refines : (w : Way) (v u : Value) (n : ℕ) → Gives v u → Refines (memoryEvent w v n) (memoryEvent w u n)
 unfolding memoryEvent
-memory-refines Load (Known a) u n e = rw e same
-memory-refines Load Unknown (Known a) n e = found-read
-memory-refines Load Unknown Unknown n e = same
-memory-refines Store (Known a) u n e = rw e same
-memory-refines Store Unknown (Known a) n e = found-write
-memory-refines Store Unknown Unknown n e = same
+memory-refines Read (Known a) u n e = rw e same
+memory-refines Read Unknown (Known a) n e = found-read
+memory-refines Read Unknown Unknown n e = same
+memory-refines Write (Known a) u n e = rw e same
+memory-refines Write Unknown (Known a) n e = found-write
+memory-refines Write Unknown Unknown n e = same
 
 -- the first half
 module _ (f g : RegisterFile) (more : Extends f g) where
   value-gives : (y : RegSpec) → Gives (valueOf f y) (valueOf g y)
-  unfolding valueOf readPart
+  unfolding valueOf partValue
   value-gives y = gives-after (slotOf f (partOf y .slot)) (slotOf g (partOf y .slot)) _ _ (more (partOf y .slot)) (λ n. refl)
 
   term-gives : (t : Term) → Gives (termOf f t) (termOf g t)

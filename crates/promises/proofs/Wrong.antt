@@ -8,7 +8,7 @@ use Rattle.definition.specs.Visits.{visitOf, countOf}
 use Rattle.definition.specs.declared.Answer.{Answer}
 use Rattle.definition.specs.declared.Answer.the-variants.{Done}
 use Rattle.promises.specs.Calls.{Refusal, by-number, by-opcode, Program}
-use Rattle.promises.specs.Rows.{recordWith, fileWith, buffer}
+use Rattle.promises.specs.Rows.{recordWith, fileKnowing, buffer}
 use Rattle.promises.specs.Bench.{P1, P1-log, P2, P2-file, P2-log}
 use Rattle.promises.specs.Promises.{Meets, atP1, atP2, NotRefusingAll, NotOneLog, NotUntouched, NotOperand0Alone, CountIsTheLength, NotOneCount, NotAllUnknown}
 use Rattle.promises.proofs.Opened.{opened}
@@ -31,12 +31,12 @@ unfolding opened P2-left
 defined-2 = refl
 
 -- place 6 has the kind of the first memory event
-defined-blind : getD (visitOf (recordWith P2) (fileWith []) (buffer 40) 0 .1) 6 0 ≡ 0x05
+defined-blind : getD (visitOf (recordWith P2) (fileKnowing []) (buffer 40) 0 .1) 6 0 ≡ 0x05
 unfolding opened
 defined-blind = refl
 
 -- place 29 has the kind of operand 1's event, and the buffer's own byte where operand 1 is left out
-defined-first : getD (visitOf (set (recordWith P2) 3 1) (fileWith P2-file) (buffer 40) 0 .1) 29 0 ≡ 0xEE
+defined-first : getD (visitOf (set (recordWith P2) 3 1) (fileKnowing P2-file) (buffer 40) 0 .1) 29 0 ≡ 0xEE
 unfolding opened
 defined-first = refl
 
@@ -57,19 +57,19 @@ left-by r = r .1
 module _ (v : Program) (m : Meets v) where
   done-1 : atP1 v .0 ≡ Done 6
   unfolding answer-of
-  done-1 = ap answer-of (m (recordWith P1) (fileWith []) (buffer 40) 0 ∙ defined-1)
+  done-1 = ap answer-of (m (recordWith P1) (fileKnowing []) (buffer 40) 0 ∙ defined-1)
 
   done-2 : atP2 v .0 ≡ Done 32
   unfolding answer-of
-  done-2 = ap answer-of (m (recordWith P2) (fileWith P2-file) (buffer 40) 0 ∙ defined-2)
+  done-2 = ap answer-of (m (recordWith P2) (fileKnowing P2-file) (buffer 40) 0 ∙ defined-2)
 
   left-1 : atP1 v .1 ≡ P1-left
   unfolding left-by
-  left-1 = ap left-by (m (recordWith P1) (fileWith []) (buffer 40) 0 ∙ defined-1)
+  left-1 = ap left-by (m (recordWith P1) (fileKnowing []) (buffer 40) 0 ∙ defined-1)
 
   left-2 : atP2 v .1 ≡ P2-left
   unfolding left-by
-  left-2 = ap left-by (m (recordWith P2) (fileWith P2-file) (buffer 40) 0 ∙ defined-2)
+  left-2 = ap left-by (m (recordWith P2) (fileKnowing P2-file) (buffer 40) 0 ∙ defined-2)
 
 pub not-refusing-all : NotRefusingAll
 not-refusing-all v m r = no-refusal (atP1 v .0) 6 r (done-1 v m)

@@ -14,7 +14,7 @@ use Rattle.digest.specs.Digests.{withPrivilege, withFlags, withNontrivial, with
 use Rattle.digest.specs.declared.BehaviorDigest.{BehaviorDigest}
 use Rattle.digest.specs.declared.DigestAnswer.{DigestAnswer}
 use Rattle.implicit.specs.Lists.{entryAt}
-use Rattle.implicit.specs.declared.Way.the-variants.{Load, Store}
+use Rattle.implicit.specs.declared.Way.the-variants.{Read, Write}
 use Rattle.implicit.specs.declared.ImplicitOperand.the-variants.{Register}
 use Rattle.implicit.specs.declared.Entry.{Entry}
 use Rattle.implicit.specs.declared.Entry.the-variants.{Operand, Slot, End}
@@ -29,7 +29,7 @@ use Rattle.definition.specs.declared.Answer.the-variants.{Done, Refused, Comple
 use Rattle.definition.specs.declared.Event.the-variants.{RegisterRead, RegisterWrite, MemoryRead, MemoryWrite, UnknownRead, UnknownWrite}
 use Rattle.definition.specs.declared.Reading.{Reading}
 use Rattle.definition.specs.declared.Reading.the-variants.{Found, Bad, Finished}
-use Rattle.promises.specs.Rows.{Patch, recordWith, fileWith, knows, long, opcode, count, specs, reg, size, prefixes, behavior, access, list, W, Nothing, RegRRR, RegMMM, Deref, Row, rowIn, row}
+use Rattle.promises.specs.Rows.{Patch, recordWith, fileKnowing, knows, long, opcode, count, specs, regs, size, prefixes, behavior, access, list, W, Nothing, RegRRR, RegMMM, Deref, Row, rowIn, row}
 
 -- Listing
 unfoldable pub listings : List Row
@@ -73,9 +73,9 @@ digestFor cs = digestCall (recordWith (behavior 0x10 ∷ access 0xFF ∷ list 9 
 unfoldable pub digests : List (List Patch × DigestAnswer)
 digests =
     -- MUL by the width of regs[1] where spec 0 is RegMMM, else by mem_size; count is not asked
-    ((opcode 1 ∷ specs (RegMMM ∷ []) ∷ reg 1 W 0 ∷ size 4 ∷ []), fixed 0x10 0xFF 2)
-    ∷ ((opcode 1 ∷ specs (RegMMM ∷ []) ∷ count 0 ∷ reg 1 W 0 ∷ size 4 ∷ []), fixed 0x10 0xFF 2)
-    ∷ ((opcode 1 ∷ specs (RegRRR ∷ RegMMM ∷ []) ∷ reg 1 W 0 ∷ size 4 ∷ []), fixed 0x10 0xFF 3)
+    ((opcode 1 ∷ specs (RegMMM ∷ []) ∷ regs 1 W 0 ∷ size 4 ∷ []), fixed 0x10 0xFF 2)
+    ∷ ((opcode 1 ∷ specs (RegMMM ∷ []) ∷ count 0 ∷ regs 1 W 0 ∷ size 4 ∷ []), fixed 0x10 0xFF 2)
+    ∷ ((opcode 1 ∷ specs (RegRRR ∷ RegMMM ∷ []) ∷ regs 1 W 0 ∷ size 4 ∷ []), fixed 0x10 0xFF 3)
     ∷ ((opcode 1 ∷ specs (Deref ∷ []) ∷ size 1 ∷ []), fixed 0x10 0xFF 1)
     ∷ ((opcode 1 ∷ specs (Deref ∷ []) ∷ size 0 ∷ []), fixed 0x10 0xFF 4)
     ∷ ((opcode 1 ∷ specs (Deref ∷ []) ∷ size 3 ∷ []), fixed 0x10 0xFF 4)
@@ -222,7 +222,7 @@ level-numbers = (Any, 0) ∷ (PL0, 1) ∷ (Special, 2) ∷ (Reserved, 3) ∷ []
 
 -- What the parts of a call answer: a register file and a record from bytes, an entry of a list. Refused, every other number is 0.
 abbrev pub fileFor : List Patch → FileAnswer
-fileFor cs = fileAnswer (fileWith cs)
+fileFor cs = fileAnswer (fileKnowing cs)
 
 abbrev pub file : ℕ → List ℕ → ℕ → FileAnswer
 file n vs k = record { number = n; file = record { values = vs; known = k } }
@@ -249,8 +249,8 @@ entryFor e = entryAt (e .0) (e .1)
 
 unfoldable pub entries : List ((ℕ × ℕ) × Entry)
 entries =
-    ((26, 1), Operand (Register (banks.reg 0 4)) Store)
-    ∷ ((25, 2), Slot 1 Load)
+    ((26, 1), Operand (Register (banks.reg 0 4)) Write)
+    ∷ ((25, 2), Slot 1 Read)
     ∷ ((26, 3), End)
     ∷ ((0, 0), End)
     ∷ ((29, 0), End)

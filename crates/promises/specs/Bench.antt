@@ -2,16 +2,16 @@
 use Prim.Native.Nat.{ℕ}
 use mathlib.Core.List.{List, [], _∷_}
 use Rattle.definition.specs.declared.Answer.the-variants.{Done, Refused, Complex}
-use Rattle.promises.specs.Rows.{Patch, opcode, specs, reg, size, scale, disp, behavior, access, list, knows, Q, D, RegRRR, RegMMM, Deref, Disp, MemIndexScale, DispU32, Row, rowIn, row}
+use Rattle.promises.specs.Rows.{Patch, opcode, specs, regs, size, scale, disp, behavior, access, list, knows, Q, D, RegRRR, RegMMM, Deref, Disp, MemIndexScale, DispU32, Row, rowIn, row}
 
 abbrev pub P1 : List Patch
-P1 = specs (RegRRR ∷ RegMMM ∷ []) ∷ access 0x06 ∷ reg 0 D 0 ∷ reg 1 D 3 ∷ []
+P1 = specs (RegRRR ∷ RegMMM ∷ []) ∷ access 0x06 ∷ regs 0 D 0 ∷ regs 1 D 3 ∷ []
 
 abbrev pub P1-log : List ℕ
 P1-log = 0x02 ∷ 0x00 ∷ 0x00 ∷ 0x01 ∷ 0x01 ∷ 0x03 ∷ []
 
 abbrev pub P2 : List Patch
-P2 = specs (Disp ∷ RegRRR ∷ []) ∷ access 0x07 ∷ behavior 0x08 ∷ reg 1 Q 3 ∷ reg 0 Q 0 ∷ size 8 ∷ disp 8 ∷ []
+P2 = specs (Disp ∷ RegRRR ∷ []) ∷ access 0x07 ∷ behavior 0x08 ∷ regs 1 Q 3 ∷ regs 0 Q 0 ∷ size 8 ∷ disp 8 ∷ []
 
 abbrev pub P2-file : List Patch
 P2-file = knows 3 0x1000 ∷ []
@@ -32,7 +32,7 @@ bench =
     -- P3
     ∷ row P2 [] (Done 16) P3-log
     -- P4
-    ∷ row (opcode 1 ∷ behavior 0x18 ∷ access 0x01 ∷ specs (RegMMM ∷ []) ∷ reg 1 D 3 ∷ []) [] (Done 15)
+    ∷ row (opcode 1 ∷ behavior 0x18 ∷ access 0x01 ∷ specs (RegMMM ∷ []) ∷ regs 1 D 3 ∷ []) [] (Done 15)
     (0x01 ∷ 0x01 ∷ 0x00 ∷ 0x02 ∷ 0x00 ∷ 0x00 ∷ 0x02 ∷ 0x00 ∷ 0x02 ∷ 0x02 ∷ 0x0B ∷ 0x00 ∷ 0x01 ∷ 0x01 ∷ 0x03 ∷ [])
     -- P5, P6
     ∷ row (specs (Disp ∷ []) ∷ disp 0xFFFFFFF8 ∷ []) (knows 0 4 ∷ []) (Done 13)
@@ -40,7 +40,7 @@ bench =
     ∷ row (specs (DispU32 ∷ []) ∷ disp 0xFFFFFFF8 ∷ []) [] (Done 10)
     (0x03 ∷ 0xF8 ∷ 0xFF ∷ 0xFF ∷ 0xFF ∷ 0x00 ∷ 0x00 ∷ 0x00 ∷ 0x00 ∷ 0x08 ∷ [])
     -- P7
-    ∷ row (specs (MemIndexScale ∷ []) ∷ reg 2 Q 1 ∷ scale 2 ∷ []) (knows 1 0x8000000000000001 ∷ []) (Done 13)
+    ∷ row (specs (MemIndexScale ∷ []) ∷ regs 2 Q 1 ∷ scale 2 ∷ []) (knows 1 0x8000000000000001 ∷ []) (Done 13)
     (0x01 ∷ 0x00 ∷ 0x01 ∷ 0x03 ∷ 0x02 ∷ 0x00 ∷ 0x00 ∷ 0x00 ∷ 0x00 ∷ 0x00 ∷ 0x00 ∷ 0x00 ∷ 0x08 ∷ [])
     -- P8
     ∷ row (list 26 ∷ size 8 ∷ []) (knows 4 0 ∷ []) (Done 19)

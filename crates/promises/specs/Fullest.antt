@@ -2,13 +2,13 @@
 -- written at known addresses.
 use Prim.Native.Nat.{ℕ}
 use mathlib.Core.List.{List, [], _∷_}
-use Rattle.promises.specs.Rows.{recordWith, specs, reg, mask, behavior, access, list, fileWith, knows, Q, MemBaseIndexScaleDisp-mask}
+use Rattle.promises.specs.Rows.{recordWith, specs, regs, mask, behavior, access, list, fileKnowing, knows, Q, MemBaseIndexScaleDisp-mask}
 
 abbrev pub fullest : List ℕ
 fullest =
     recordWith
     (specs (MemBaseIndexScaleDisp-mask ∷ MemBaseIndexScaleDisp-mask ∷ MemBaseIndexScaleDisp-mask ∷ MemBaseIndexScaleDisp-mask ∷ [])
-    ∷ access 0xFF ∷ behavior 0x0C ∷ list 26 ∷ mask 1 ∷ reg 1 Q 3 ∷ reg 2 Q 1 ∷ [])
+    ∷ access 0xFF ∷ behavior 0x0C ∷ list 26 ∷ mask 1 ∷ regs 1 Q 3 ∷ regs 2 Q 1 ∷ [])
 
 abbrev pub fullest-file : List ℕ
-fullest-file = fileWith (knows 1 1 ∷ knows 3 3 ∷ knows 4 4 ∷ [])
+fullest-file = fileKnowing (knows 1 1 ∷ knows 3 3 ∷ knows 4 4 ∷ [])

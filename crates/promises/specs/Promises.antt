@@ -27,7 +27,7 @@ use Rattle.definition.specs.declared.Event.{Event}
 use Rattle.definition.specs.declared.Reading.the-variants.{Found}
 use Rattle.promises.specs.Refinement.{Extends, AgreeOn}
 use Rattle.promises.specs.Calls.{Refusal, Alike, Written, ReadsFrom, Addressable, Program, OneOutcome}
-use Rattle.promises.specs.Rows.{recordWith, fileWith, buffer, Visited, Listed, Table}
+use Rattle.promises.specs.Rows.{recordWith, fileKnowing, buffer, Visited, Listed, Table}
 use Rattle.promises.specs.Bench.{P1, P2, P2-file, bench}
 use Rattle.promises.specs.Beyond.{widening, masking, leas, ordering, addressing, malformed, refusing}
 use Rattle.promises.specs.Answers.{listings, digestFor, digests, exceptionsFor, exceptions, privilegeFor, privileges, readingFrom, readings, numbersOf, answer-numbers, reading-numbers, level-numbers, fileFor, files, recordFor, records, entryFor, entries, any-none, any-rows, vectors, vector-rows, may, may-rows, setter, setter-rows}
@@ -189,10 +189,10 @@ Meets v = (b f p : List ℕ) (s : ℕ) → v b f p s ≡ visitOf b f p s
 
 -- what a program gives at P1 and at P2, over 40 bytes
 abbrev pub atP1 : Program → Answer × List ℕ
-atP1 v = v (recordWith P1) (fileWith []) (buffer 40) 0
+atP1 v = v (recordWith P1) (fileKnowing []) (buffer 40) 0
 
 abbrev pub atP2 : Program → Answer × List ℕ
-atP2 v = v (recordWith P2) (fileWith P2-file) (buffer 40) 0
+atP2 v = v (recordWith P2) (fileKnowing P2-file) (buffer 40) 0
 
 -- Refusing everything breaks the exact refusal table: P1 is not refused.
 abbrev pub NotRefusingAll : Type 0
@@ -211,7 +211,7 @@ NotUntouched = (v : Program) → Meets v → atP1 v .1 ≡ buffer 40 → ⊥
 -- the same record with count 1 (byte 3).
 abbrev pub NotOperand0Alone : Type 0
 NotOperand0Alone =
-    (v : Program) → Meets v → atP2 v .1 ≡ visitOf (set (recordWith P2) 3 1) (fileWith P2-file) (buffer 40) 0 .1 → ⊥
+    (v : Program) → Meets v → atP2 v .1 ≡ visitOf (set (recordWith P2) 3 1) (fileKnowing P2-file) (buffer 40) 0 .1 → ⊥
 
 -- An invented n breaks demand 2, since n is the length of the defined log; so no n is both P1's and P2's.
 abbrev pub CountIsTheLength : Type 0
@@ -224,4 +224,4 @@ NotOneCount = (v : Program) → Meets v → (n : ℕ) → atP1 v .0 ≡ Done n �
 
 -- An all-unknown log, that of a file that knows nothing, breaks demand 2 at P2, though demand 3 alone would let it pass.
 abbrev pub NotAllUnknown : Type 0
-NotAllUnknown = (v : Program) → Meets v → atP2 v .1 ≡ visitOf (recordWith P2) (fileWith []) (buffer 40) 0 .1 → ⊥
+NotAllUnknown = (v : Program) → Meets v → atP2 v .1 ≡ visitOf (recordWith P2) (fileKnowing []) (buffer 40) 0 .1 → ⊥

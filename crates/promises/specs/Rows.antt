@@ -39,8 +39,8 @@ count n = put 3 (n ∷ [])
 abbrev pub specs : List ℕ → Patch
 specs ss = put 3 (length ss ∷ ss)
 
-abbrev pub reg : ℕ → ℕ → ℕ → Patch
-reg i bank number = put (8 + 2 * i) (bank ∷ number ∷ [])
+abbrev pub regs : ℕ → ℕ → ℕ → Patch
+regs i bank number = put (8 + 2 * i) (bank ∷ number ∷ [])
 
 abbrev pub size : ℕ → Patch
 size n = put 16 (n ∷ [])
@@ -70,8 +70,8 @@ abbrev pub list : ℕ → Patch
 list n = put 38 (little 2 n)
 
 -- a register file that knows nothing but what is said
-abbrev pub fileWith : List Patch → List ℕ
-fileWith cs = patched (put 0 (0x20 ∷ []) ∷ cs) (replicate 141 0)
+abbrev pub fileKnowing : List Patch → List ℕ
+fileKnowing cs = patched (put 0 (0x20 ∷ []) ∷ cs) (replicate 141 0)
 
 abbrev pub knows : ℕ → ℕ → Patch
 knows k v f = put (5 + 8 * k) (little 8 v) (put 1 (little 4 (numberAt f 1 4 + 2 ^ k)) f)
@@ -216,7 +216,7 @@ said r = (r .answer, take (r .start) (buffer (r .room)) ++ (r .bytes ++ drop (r 
 
 -- every row says what the definition of visiting, or of listing, gives
 abbrev pub Visited : List Row → Type 0
-Visited rows = map (λ (r : Row). visitOf (recordWith (r .fields)) (fileWith (r .file)) (buffer (r .room)) (r .start)) rows ≡ map said rows
+Visited rows = map (λ (r : Row). visitOf (recordWith (r .fields)) (fileKnowing (r .file)) (buffer (r .room)) (r .start)) rows ≡ map said rows
 
 abbrev pub Listed : List Row → Type 0
 Listed rows = map (λ (r : Row). listingCall (recordWith (r .fields)) (buffer (r .room)) (r .start)) rows ≡ map said rows

@@ -9,7 +9,7 @@ use Rattle.registers.specs.declared.Value.the-variants.{Known, Unknown}
 use Rattle.record.specs.Records.{recordRefusal}
 use Rattle.definition.specs.Visits.{numberOf, visitOf}
 use Rattle.definition.specs.declared.Answer.the-variants.{Done}
-use Rattle.promises.specs.Rows.{Patch, recordWith, put, opcode, specs, reg, size, scale, disp, imm, mask, access, list, fileWith, knows, Q, D, W, rB, B, X, K, RIP, EIP, RFLAGS, RegMMM, Deref-rsi, Deref-edi, log, reads, writes, loads, loads-unknown, stores-unknown, Row, row, buffer}
+use Rattle.promises.specs.Rows.{Patch, recordWith, put, opcode, specs, regs, size, scale, disp, imm, mask, access, list, fileKnowing, knows, Q, D, W, rB, B, X, K, RIP, EIP, RFLAGS, RegMMM, Deref-rsi, Deref-edi, log, reads, writes, loads, loads-unknown, stores-unknown, Row, row, buffer}
 use Rattle.promises.specs.Answers.{digestFor, exceptionsFor}
 
 -- The implicit lists, with Deref_rsi in slot 0 and Deref_edi in slot 1, and nothing known: what each logs
@@ -61,7 +61,7 @@ every-list =
 
 -- The specs, each as the only operand, read: regs D 1, Q 2, Q 5, D 6; mask 3; scale 4; displacement -16
 abbrev spec-fields : ℕ → List Patch
-spec-fields s = specs (s ∷ []) ∷ reg 0 D 1 ∷ reg 1 Q 2 ∷ reg 2 Q 5 ∷ reg 3 D 6 ∷ mask 3 ∷ scale 4 ∷ disp 0x1FFFFFFF0 ∷ imm 7 ∷ []
+spec-fields s = specs (s ∷ []) ∷ regs 0 D 1 ∷ regs 1 Q 2 ∷ regs 2 Q 5 ∷ regs 3 D 6 ∷ mask 3 ∷ scale 4 ∷ disp 0x1FFFFFFF0 ∷ imm 7 ∷ []
 
 abbrev spec-file : List Patch
 spec-file = knows 2 0x1000 ∷ knows 5 0x20 ∷ knows 6 0x100004000 ∷ knows 7 0x100003000 ∷ []
@@ -125,7 +125,7 @@ every-spec-written =
 -- The opcodes, with bit 4, count 3, RegMMM of bank D, access 0xAA and list 27: operand accesses and list after fix-ups
 abbrev pub fixedBy : ℕ → ℕ × ℕ
 fixedBy o =
-    let a = digestFor (opcode o ∷ specs (RegMMM ∷ 1 ∷ 1 ∷ []) ∷ reg 1 D 0 ∷ access 0xAA ∷ list 27 ∷ []) in
+    let a = digestFor (opcode o ∷ specs (RegMMM ∷ 1 ∷ 1 ∷ []) ∷ regs 1 D 0 ∷ access 0xAA ∷ list 27 ∷ []) in
     (a .digest .operands, a .digest .extra)
 
 unfoldable pub every-opcode : List (ℕ × (ℕ × ℕ))
@@ -139,7 +139,7 @@ every-opcode =
 
 -- The banks: the refusal of a record that names the last number, and of one that names the next
 abbrev pub namedIn : ℕ × ℕ → ℕ × ℕ
-namedIn e = (recordRefusal (recordWith (reg 2 (e .0) (e .1) ∷ [])), recordRefusal (recordWith (reg 2 (e .0) (suc (e .1)) ∷ [])))
+namedIn e = (recordRefusal (recordWith (regs 2 (e .0) (e .1) ∷ [])), recordRefusal (recordWith (regs 2 (e .0) (suc (e .1)) ∷ [])))
 
 abbrev pub last-passes : ℕ × ℕ → (ℕ × ℕ) × (ℕ × ℕ)
 last-passes e = (e, (0, 2))
@@ -151,7 +151,7 @@ every-bank =
 
 -- The widths of banks, as MUL asks for them: the list that it takes by bank of regs[1]
 abbrev pub mulOf : ℕ → ℕ
-mulOf b = digestFor (opcode 1 ∷ specs (RegMMM ∷ []) ∷ reg 1 b 0 ∷ size 0 ∷ []) .digest .extra
+mulOf b = digestFor (opcode 1 ∷ specs (RegMMM ∷ []) ∷ regs 1 b 0 ∷ size 0 ∷ []) .digest .extra
 
 unfoldable pub every-width : List (ℕ × ℕ)
 every-width =
@@ -160,7 +160,7 @@ every-width =
 -- What a file gives of a register of each bank: rax, rcx and rip are known
 abbrev pub valueIn : ℕ × ℕ → Value
 valueIn e =
-    valueOf (fileOf (fileWith (knows 0 0x8877665544332211 ∷ knows 1 0x18273645A4B3C2D1 ∷ knows 16 0xFFEEDDCCBBAA9988 ∷ []))) (banks.reg (e .0) (e .1))
+    valueOf (fileOf (fileKnowing (knows 0 0x8877665544332211 ∷ knows 1 0x18273645A4B3C2D1 ∷ knows 16 0xFFEEDDCCBBAA9988 ∷ []))) (banks.reg (e .0) (e .1))
 
 unfoldable pub every-value : List ((ℕ × ℕ) × Value)
 every-value =
@@ -191,7 +191,7 @@ every-value =
 abbrev pub atSize0 : ℕ → ℕ × ℕ
 atSize0 l =
     let cs = put 4 (Deref-rsi ∷ Deref-edi ∷ []) ∷ list l ∷ size 0 ∷ [] in
-    (numberOf (visitOf (recordWith cs) (fileWith []) (buffer 40) 0 .0), exceptionsFor cs .info .vectors)
+    (numberOf (visitOf (recordWith cs) (fileKnowing []) (buffer 40) 0 .0), exceptionsFor cs .info .vectors)
 
 unfoldable pub every-memory-list : List (ℕ × (ℕ × ℕ))
 every-memory-list =

@@ -122,7 +122,7 @@ impl Record {
         if k < 4 { specs[k] } else { 0 }
     }
 
-    pub fn reg(self, i: u8) -> RegSpec
+    pub fn reg_at(self, i: u8) -> RegSpec
         ensures { λ r. ⌜ r ≡ regAt self i ⌝ }
     {
         let regs = self.regs;

@@ -15,7 +15,7 @@ use Rattle.laws.specs.Words.{bit}
 use Rattle.laws.proofs.Every.{Every, every-at, at}
 use Rattle.laws.proofs.Numbers.{number-below}
 use Rattle.registers.specs.Banks.{bankWidths, widthOf, isRegister}
-use Rattle.registers.specs.Files.{Part, nowhere, bankParts, partOf, slotOf, after, readPart, valueOf, numbersFrom, fileOf}
+use Rattle.registers.specs.Files.{Part, nowhere, bankParts, partOf, slotOf, after, partValue, valueOf, numbersFrom, fileOf}
 use Rattle.registers.proofs.Parts.{inner}
 use Rattle.registers.specs.declared.RegSpec.{RegSpec}
 use Rattle.registers.specs.declared.RegisterFile.{RegisterFile}
@@ -51,8 +51,8 @@ unfolding fileOf
 file-words b h = numbers-below b h 5 17
 
 -- a part has no more than its bits
-pub part-below : (f : RegisterFile) (p : Part) → Below (2 ^ (p .bits)) (readPart f p)
-unfolding readPart
+pub part-below : (f : RegisterFile) (p : Part) → Below (2 ^ (p .bits)) (partValue f p)
+unfolding partValue
 part-below f p = by (slotOf f (p .slot))
   where
     by : (x : Value) → Below (2 ^ (p .bits)) (after x (λ v. Known (v / 2 ^ (p .below) % 2 ^ (p .bits))))
@@ -63,11 +63,11 @@ part-below f p = by (slotOf f (p .slot))
 fits : ℕ → Part → Bool
 fits bank p = eqb (p .bits) (8 * getD bankWidths bank 0) || eqb (p .slot) 17
 
-fitting : (f : RegisterFile) (bank : ℕ) (p : Part) → fits bank p ≡ true → Below (2 ^ (8 * getD bankWidths bank 0)) (readPart f p)
-unfolding fits readPart slotOf
+fitting : (f : RegisterFile) (bank : ℕ) (p : Part) → fits bank p ≡ true → Below (2 ^ (8 * getD bankWidths bank 0)) (partValue f p)
+unfolding fits partValue slotOf
 fitting f bank p h = by (eqb (p .bits) (8 * getD bankWidths bank 0)) refl h
   where
-    by : (t : Bool) → eqb (p .bits) (8 * getD bankWidths bank 0) ≡ t → (t || eqb (p .slot) 17) ≡ true → Below (2 ^ (8 * getD bankWidths bank 0)) (readPart f p)
+    by : (t : Bool) → eqb (p .bits) (8 * getD bankWidths bank 0) ≡ t → (t || eqb (p .slot) 17) ≡ true → Below (2 ^ (8 * getD bankWidths bank 0)) (partValue f p)
     by true e h = rw (← eqb-true (p .bits) (8 * getD bankWidths bank 0) e) (part-below f p)
     by false e h = rw (eqb-true (p .slot) 17 h) tt
 
@@ -79,7 +79,7 @@ value-below f x = by (isRegister (x .bank) (x .number))
     p : Part
     p = getD (bankParts (x .number)) (x .bank) nowhere
 
-    by : (t : Bool) → Below (2 ^ (8 * getD bankWidths (x .bank) 0)) (readPart f (cond t p nowhere))
+    by : (t : Bool) → Below (2 ^ (8 * getD bankWidths (x .bank) 0)) (partValue f (cond t p nowhere))
     by true = fitting f (x .bank) p (at fits (bankParts (x .number)) nowhere refl (λ (k : ℕ). or-true (eqb 0 (8 * getD bankWidths k 0))) (x .bank))
     by false = fitting f (x .bank) nowhere (or-true (eqb 0 (8 * getD bankWidths (x .bank) 0)))
 
@@ -94,15 +94,15 @@ value-word f x = by (isRegister (x .bank) (x .number))
     small : p .bits ≤ 64
     small = every-at (λ (q : Part). q .bits ≤ 64) (bankParts (x .number)) nowhere (search needs) (lit≤ tt) (x .bank)
 
-    by : (t : Bool) → Below (2 ^ 64) (readPart f (cond t p nowhere))
-    by true = below-le (pow-mono small) (readPart f p) (part-below f p)
-    by false = below-le (pow-mono {i = 0} {j = 64} (lit≤ tt)) (readPart f nowhere) (part-below f nowhere)
+    by : (t : Bool) → Below (2 ^ 64) (partValue f (cond t p nowhere))
+    by true = below-le (pow-mono small) (partValue f p) (part-below f p)
+    by false = below-le (pow-mono {i = 0} {j = 64} (lit≤ tt)) (partValue f nowhere) (part-below f nowhere)
 
 -- a register inside another, `up` bits above its lowest, is that part of its value: of ax, al is the remainder and ah is what is above
 pub inside :
     (f : RegisterFile) (x y : RegSpec) (up : ℕ) → partOf x .slot ≡ partOf y .slot → partOf x .below ≡ partOf y .below + up → partOf x .bits + up ≤ partOf y .bits
     → valueOf f x ≡ after (valueOf f y) (λ v. Known (v / 2 ^ up % 2 ^ (partOf x .bits)))
-unfolding valueOf readPart
+unfolding valueOf partValue
 inside f x y up s b h =
     let p = partOf x in
     let q = partOf y in

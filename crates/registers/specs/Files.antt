@@ -78,9 +78,9 @@ after (Known v) k = k v
 after Unknown k = Unknown
 
 -- what a file answers of a part: its bits of the slot's value
-unfoldable pub readPart : RegisterFile → Part → Value
-readPart f p = after (slotOf f (p .slot)) (λ v. Known (v / 2 ^ (p .below) % 2 ^ (p .bits)))
+unfoldable pub partValue : RegisterFile → Part → Value
+partValue f p = after (slotOf f (p .slot)) (λ v. Known (v / 2 ^ (p .below) % 2 ^ (p .bits)))
 
 -- what a file answers of a register; one that the table has not is unknown
 unfoldable pub valueOf : RegisterFile → RegSpec → Value
-valueOf f x = readPart f (partOf x)
+valueOf f x = partValue f (partOf x)

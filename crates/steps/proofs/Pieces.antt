@@ -5,7 +5,7 @@ use mathlib.Core.List.{[], _∷_, _++_, map, map-append, append-assoc}
 use Rattle.laws.specs.Lists.{flat}
 use Rattle.registers.specs.declared.RegisterFile.{RegisterFile}
 use Rattle.implicit.specs.declared.Way.{Way}
-use Rattle.implicit.specs.declared.Way.the-variants.{Load}
+use Rattle.implicit.specs.declared.Way.the-variants.{Read}
 use Rattle.definition.specs.Addresses.{registersOf, addressOf}
 use Rattle.definition.specs.Steps.{reads, touches, maskRegisters, maskSteps}
 use Rattle.definition.specs.Logs.{memoryEvent, stepEvents, eventsOf}
@@ -24,4 +24,4 @@ touch-split f w a m n = simp (map-append, append-assoc)
 pub events-stopped : (f : RegisterFile) (a : Address) (m : ℕ) → eventsOf f (map reads (registersOf a) ++ maskSteps m) ≡ touchReads a m
 unfolding touchReads
 events-stopped f a m =
-    rw (← map-append reads (registersOf a) (maskRegisters m)) (events-moved f Load (registersOf a ++ maskRegisters m))
+    rw (← map-append reads (registersOf a) (maskRegisters m)) (events-moved f Read (registersOf a ++ maskRegisters m))

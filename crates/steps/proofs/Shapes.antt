@@ -6,7 +6,7 @@ use mathlib.Core.List.{List, [], _∷_, _++_, append-nil}
 use Rattle.laws.specs.Lists.{each, flat}
 use Rattle.access.specs.Accesses.{reading, writing}
 use Rattle.registers.specs.declared.RegisterFile.{RegisterFile}
-use Rattle.implicit.specs.declared.Way.the-variants.{Load, Store}
+use Rattle.implicit.specs.declared.Way.the-variants.{Read, Write}
 use Rattle.record.specs.Records.{regAt}
 use Rattle.record.specs.declared.Record.{Record}
 use Rattle.definition.specs.Behaviors.{Operand}
@@ -27,16 +27,16 @@ read-part :
     (f : RegisterFile) (x : Record) (k : ℕ) (masked : Bool)
     → eventsOf f (readPart x (Register k masked)) ≡ registerRead (regAt x k) (maskFor x masked)
 unfolding readPart
-read-part f x k masked = events-moved f Load (regAt x k ∷ maskRegisters (maskFor x masked))
+read-part f x k masked = events-moved f Read (regAt x k ∷ maskRegisters (maskFor x masked))
 
 write-part :
     (f : RegisterFile) (x : Record) (k : ℕ) (masked : Bool)
     → eventsOf f (writePart x (Register k masked)) ≡ registerWrite (regAt x k) masked (maskFor x masked)
 unfolding writePart registerWrite maskedWrite flat each
-write-part f x k false = events-moved f Store (widened (regAt x k) ∷ [])
+write-part f x k false = events-moved f Write (widened (regAt x k) ∷ [])
 write-part f x k true =
     each-append (stepEvents f) (maskSteps (x .mask)) (writes (regAt x k) ∷ [])
-    ∙ rw (events-moved f Load (maskRegisters (x .mask)), events-moved f Store (regAt x k ∷ []), append-nil (moved Store (regAt x k ∷ [])))
+    ∙ rw (events-moved f Read (maskRegisters (x .mask)), events-moved f Write (regAt x k ∷ []), append-nil (moved Write (regAt x k ∷ [])))
 
 -- both parts, each where the operand has it
 part-if : (f : RegisterFile) (on : Bool) (ss : List Step) {es : List Event} → eventsOf f ss ≡ es → eventsOf f (cond on ss []) ≡ cond on es []
@@ -84,7 +84,7 @@ module _
     fourth-operand e =
         let y = fourthOf x in
         rw (e, r, w)
-        (both-parts f (reading (o .access)) (writing (o .access)) (reads y ∷ []) (writes (widened y) ∷ []) (events-moved f Load (y ∷ [])) (events-moved f Store (widened y ∷ [])))
+        (both-parts f (reading (o .access)) (writing (o .access)) (reads y ∷ []) (writes (widened y) ∷ []) (events-moved f Read (y ∷ [])) (events-moved f Write (widened y ∷ [])))
 
     pub memory-operand :
         (b : Base) (i : Bool) (d : Displacement) (masked : Bool) → o .shape ≡ Memory b i d masked

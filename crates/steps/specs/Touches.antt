@@ -4,7 +4,7 @@ use mathlib.Core.List.{List, [], _∷_, _++_, map}
 use mathlib.Core.Bool.{Bool, false, cond}
 use Rattle.laws.specs.Lists.{flat}
 use Rattle.implicit.specs.declared.Way.{Way}
-use Rattle.implicit.specs.declared.Way.the-variants.{Load, Store}
+use Rattle.implicit.specs.declared.Way.the-variants.{Read, Write}
 use Rattle.implicit.specs.declared.ImplicitOperand.{ImplicitOperand}
 use Rattle.implicit.specs.declared.ImplicitOperand.the-variants.{Register, MemDeref, Disp, MemBaseIndexScale}
 use Rattle.definition.specs.Addresses.{signed32, registersOf}
@@ -19,7 +19,7 @@ memorySteps w a m n stops = cond stops (map reads (registersOf a) ++ maskSteps m
 -- a memory operand: its read part where it is read, which stops under LEA, then its write part where it is written, which does not
 unfoldable pub memoryOperand : Address → ℕ → ℕ → Bool → Bool → Bool → List Step
 memoryOperand a m n lea read write =
-    flat (cond read (memorySteps Load a m n lea) [] ∷ cond write (memorySteps Store a m n false) [] ∷ [])
+    flat (cond read (memorySteps Read a m n lea) [] ∷ cond write (memorySteps Write a m n false) [] ∷ [])
 
 -- the address of an implicit memory form
 unfoldable pub implicitAddress : ImplicitOperand → Address

@@ -37,7 +37,7 @@ pub fn put_log(log: &mut [u8], values: &[u64; 17], known: u32, x: Record) -> usi
     let read = flags.is_read();
     let write = flags.is_write();
     let a = put_entries(log, values, known, x);
-    let b = a + put_flags(&mut log[a..], Way::Load, read);
-    let c = b + put_flags(&mut log[b..], Way::Store, write);
+    let b = a + put_flags(&mut log[a..], Way::Read, read);
+    let c = b + put_flags(&mut log[b..], Way::Write, write);
     c + put_operands(&mut log[c..], values, known, x)
 }

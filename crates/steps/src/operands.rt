@@ -29,7 +29,7 @@ fn put_operand(log: &mut [u8], values: &[u64; 17], known: u32, x: Record, i: u8)
         Shape::Nothing => 0,
         Shape::Register(k, masked) => put_register_operand(
             log,
-            x.reg(k),
+            x.reg_at(k),
             masked,
             address::mask_for(x, masked),
             read,

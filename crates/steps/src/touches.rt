@@ -94,14 +94,14 @@ pub fn put_memory_operand(
     requires { ⌜ size (stepBytes (fileWith (now values) known)) (memoryOperand a m bytes lea read write) ≤ length (now log) ⌝ }
     ensures { λ r. ⌜ Logged (stepBytes (fileWith (now (values .entry)) known)) (memoryOperand a m bytes lea read write) (now (log .entry)) (now (log .exit)) r ⌝ }
 {
-    let n = put_memory_if(log, read, values, known, Way::Load, a, m, bytes, lea);
+    let n = put_memory_if(log, read, values, known, Way::Read, a, m, bytes, lea);
     n
         + put_memory_if(
             &mut log[n..],
             write,
             values,
             known,
-            Way::Store,
+            Way::Write,
             a,
             m,
             bytes,

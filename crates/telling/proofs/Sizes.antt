@@ -23,7 +23,7 @@ use Rattle.definition.specs.declared.Answer.{Answer}
 use Rattle.definition.specs.declared.Answer.the-variants.{Done, Refused, Complex}
 use Rattle.definition.specs.declared.Reading.{Reading}
 use Rattle.definition.specs.declared.Reading.the-variants.{Found, Bad, Finished}
-use Rattle.event.proofs.Fronts.{Moves, moves}
+use Rattle.event.proofs.Fronts.{Moves, goes-on}
 use Rattle.telling.specs.Ascii.{ascii}
 use Rattle.telling.specs.Names.{quads, doubles, words, lows, bytes}
 use Rattle.telling.specs.Words.{Word, letters, decimal, hex, places, wordBytes, text, named, numbered, names, nameOf, sizeOf, placeOf, reads, writes, registerLine, memoryLine, unknownLine, lineOf}
@@ -161,7 +161,7 @@ read-size l at rest Finished m h = omega arith
 lines-size : (fuel : ℕ) (l : List ℕ) (at : ℕ) → size wordBytes (linesFrom fuel l at) ≤ 64 * (length l - at)
 unfolding linesFrom size each
 lines-size zero l at = omega arith
-lines-size (suc fuel) l at = read-size l at (linesFrom fuel l) (readAt l at) (moves l at) (lines-size fuel l)
+lines-size (suc fuel) l at = read-size l at (linesFrom fuel l) (readAt l at) (goes-on l at) (lines-size fuel l)
 
 log-size : (l : List ℕ) → size wordBytes (logWords l) ≤ 64 * length l + 64
 unfolding logWords linesOf ascii

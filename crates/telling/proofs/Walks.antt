@@ -14,7 +14,7 @@ use Rattle.definition.proofs.Reading.{enum}
 use Rattle.definition.specs.Readings.{readAt}
 use Rattle.definition.specs.declared.Reading.{Reading}
 use Rattle.definition.specs.declared.Reading.the-variants.{Found, Bad, Finished}
-use Rattle.event.proofs.Fronts.{Moves, moves, finished}
+use Rattle.event.proofs.Fronts.{Moves, goes-on, finished}
 use Rattle.telling.specs.Words.{Word, wordBytes, text}
 use Rattle.telling.specs.Reports.{linedBy, linesFrom, linesOf, logWords}
 
@@ -33,7 +33,7 @@ fuel zero zero l at h h′ = refl
 fuel zero (suc j) l at h h′ = rw (finished l at (omega arith))
 fuel (suc i) zero l at h h′ = rw (finished l at (omega arith))
 fuel (suc i) (suc j) l at h h′ =
-    same l at (linesFrom i l) (linesFrom j l) (readAt l at) (moves l at) (λ k m o. fuel i j l k (omega arith) (omega arith))
+    same l at (linesFrom i l) (linesFrom j l) (readAt l at) (goes-on l at) (λ k m o. fuel i j l k (omega arith) (omega arith))
 
 -- the lines from a place on
 abbrev pub left : List ℕ → ℕ → List Word
@@ -44,7 +44,7 @@ pub unrolled : (l : List ℕ) (at : ℕ) → left l at ≡ linedBy (readAt l at)
 unfolding linesFrom
 unrolled l at =
     fuel (length l - at) (suc (length l)) l at (omega arith) (omega arith)
-    ∙ same l at (linesFrom (length l) l) (left l) (readAt l at) (moves l at)
+    ∙ same l at (linesFrom (length l) l) (left l) (readAt l at) (goes-on l at)
     (λ k m o. fuel (length l) (length l - k) l k (omega arith) (omega arith))
 
 -- no event was read

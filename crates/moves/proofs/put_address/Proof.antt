@@ -6,7 +6,7 @@ use lib.ListN.{length}
 use Rattle.laws.specs.Lists.{flat}
 use Rattle.laws.specs.Lending.{size}
 use Rattle.laws.proofs.Lending.{Going, first, next, inside, fits, fits-first, ends, whole, keeps, back}
-use Rattle.implicit.specs.declared.Way.the-variants.{Load}
+use Rattle.implicit.specs.declared.Way.the-variants.{Read}
 use Rattle.definition.specs.Addresses.{termRegisters}
 use Rattle.definition.specs.Steps.{maskRegisters}
 use Rattle.definition.specs.Logs.{eventBytes}
@@ -17,13 +17,13 @@ use Rattle.moves.proofs.put_address.Statement.{statement}
 use Rattle.moves.proofs.put_address.Tie as tie
 
 abbrev base : tie.Start → List Event
-base s = moved Load (termRegisters (s .args .a .base))
+base s = moved Read (termRegisters (s .args .a .base))
 
 abbrev index : tie.Start → List Event
-index s = moved Load (termRegisters (s .args .a .index))
+index s = moved Read (termRegisters (s .args .a .index))
 
 abbrev mask : tie.Start → List Event
-mask s = moved Load (maskRegisters (s .args .m))
+mask s = moved Read (maskRegisters (s .args .m))
 
 abbrev all : tie.Start → List Event
 all s = flat (base s ∷ index s ∷ mask s ∷ [])

@@ -1,5 +1,5 @@
 use Rattle.definition.specs.Steps.{maskRegisters}
-use Rattle.implicit.specs.declared.Way.the-variants.{Load}
+use Rattle.implicit.specs.declared.Way.the-variants.{Read}
 use Rattle.moves.proofs.Moved.{moved-cons}
 use borrow.Author.Needs.{needs}
 use Rattle.definition.specs.Addresses.{termRegisters}
@@ -13,7 +13,7 @@ put-two-requires : tie.Need-put-two-requires
 unfolding termRegisters
 put-two-requires c κs =
     let s = c .before .before .before in
-    rw (c .mask-term .ensures) (rw (moved-cons Load (s .args .y) (maskRegisters (s .args .m))) at (s .pre))
+    rw (c .mask-term .ensures) (rw (moved-cons Read (s .args .y) (maskRegisters (s .args .m))) at (s .pre))
 
 same-length : tie.Need-same-length
 same-length c = search needs
@@ -22,7 +22,7 @@ returns : tie.Need-returns
 unfolding termRegisters
 returns c =
     let s = c .before .before .before .before .before .before in
-    rw (moved-cons Load (s .args .y) (maskRegisters (s .args .m)), ← c .before .before .before .mask-term .ensures) (c .before .before .put-two .ensures)
+    rw (moved-cons Read (s .args .y) (maskRegisters (s .args .m)), ← c .before .before .before .mask-term .ensures) (c .before .before .put-two .ensures)
 
 pub put-read-spec : {M : Type 1} → statement M
 put-read-spec = tie.close (tie.spec mask-term-requires put-two-requires same-length returns)

@@ -5,7 +5,7 @@ use mathlib.Core.Path.{sym, subst}
 use lib.ListN.{length}
 use denote.Ref.{now}
 use borrow.Author.Needs.{needs}
-use Rattle.event.proofs.Fronts.{Moves, moves, finished, from-part}
+use Rattle.event.proofs.Fronts.{Moves, goes-on, finished, from-part}
 use Rattle.event.proofs.reader.read_event.Statement.{statement}
 use Rattle.event.proofs.reader.read_event.Tie as tie
 
@@ -34,7 +34,7 @@ add-t13 : tie.Need-add-t13
 add-t13 c =
     let l = now (c .before .before .before .before .before .before .before .args .log) in
     let at = c .before .before .before .before .before .before .before .args .at in
-    let m : (at < at + c .before .r .given .0 .1 .0) × (at + c .before .r .given .0 .1 .0 ≤ length l) = subst (Moves l at) (sym (returns-2 c)) (moves l at) in
+    let m : (at < at + c .before .r .given .0 .1 .0) × (at + c .before .r .given .0 .1 .0 ≤ length l) = subst (Moves l at) (sym (returns-2 c)) (goes-on l at) in
     omega arith
 
 enum-known-r-2 : tie.Need-enum-known-r-2

@@ -7,14 +7,14 @@ use borrow.Author.Needs.{needs}
 use Rattle.definition.specs.declared.Reading.{Reading}
 use Rattle.definition.specs.declared.Reading.the-variants.{Found}
 use Rattle.definition.specs.Readings.{readAt}
-use Rattle.event.specs.Counts.{counted, countOf}
-use Rattle.event.proofs.Fronts.{Moves, moves}
+use Rattle.event.specs.Counts.{counted, countedOf}
+use Rattle.event.proofs.Fronts.{Moves, goes-on}
 use Rattle.event.proofs.Walks.{left, whole, unrolled, stopped}
 use Rattle.event.proofs.walk.count_events.Statement.{statement}
 use Rattle.event.proofs.walk.count_events.Tie as tie
 
 abbrev Inv-loop : tie.InvT-loop
-Inv-loop log at₀ n₀ at n = (at ≤ length log) × (n ≤ at) × (countOf log ≡ left log at n)
+Inv-loop log at₀ n₀ at n = (at ≤ length log) × (n ≤ at) × (countedOf log ≡ left log at n)
 
 abbrev μ-loop : tie.MeasureT-loop
 μ-loop log at₀ n₀ at n = length log - at
@@ -52,7 +52,7 @@ further :
 further c =
     let log = c .before .before .before .before .before .before .args .log .now in
     let at = c .before .before .before .before .loop .at in
-    subst (Moves log at) (read c) (moves log at)
+    subst (Moves log at) (read c) (goes-on log at)
 
 add-n : tie.Need-add-n Inv-loop μ-loop
 add-n c = let m = further c in omega arith

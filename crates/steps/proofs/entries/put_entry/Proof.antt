@@ -9,7 +9,7 @@ use Rattle.definition.specs.Logs.{eventsOf, stepBytes}
 use Rattle.address.proofs.Addresses.{slot-registers}
 use Rattle.moves.specs.Moves.{moved}
 use Rattle.steps.specs.Touches.{implicitAddress}
-use Rattle.steps.proofs.Events.{as-steps, as-events, events-moved, moves-logged, moves-room}
+use Rattle.steps.proofs.Events.{as-steps, as-events, events-moved, register-logged, register-room}
 use Rattle.steps.proofs.Implicits.{touch-of}
 use Rattle.registers.specs.Files.{fileWith}
 use Rattle.registers.specs.declared.RegisterFile.{RegisterFile}
@@ -50,7 +50,7 @@ unfolding entrySteps implicitStep
 put-move-requires c κs =
     let s = c .before .before .before .before .before .before .before .before in
     let way = c .before .before .before .before .before .e .given .0 .1 .0 in
-    moves-room (file s) way (c .before .before .o .given .0 .0 ∷ []) (rw (c .before .before .before .before .before .e .given .1, c .before .before .o .given .1) at (s .pre))
+    register-room (file s) way (c .before .before .o .given .0 .0 ∷ []) (rw (c .before .before .before .before .before .e .given .1, c .before .before .o .given .1) at (s .pre))
 
 implicit-address-requires : tie.Need-implicit-address-requires
 implicit-address-requires c κs = search needs
@@ -82,7 +82,7 @@ unfolding entrySteps implicitStep
 returns c =
     let s = c .before .before .before .before .before .before .before .before .before .before .before in
     let way = c .before .before .before .before .before .before .before .before .e .given .0 .1 .0 in
-    rw (c .before .before .before .before .before .before .before .before .e .given .1, c .before .before .before .before .before .o .given .1) (moves-logged (file s) way (c .before .before .before .before .before .o .given .0 .0 ∷ []) (c .before .before .put-move .ensures))
+    rw (c .before .before .before .before .before .before .before .before .e .given .1, c .before .before .before .before .before .o .given .1) (register-logged (file s) way (c .before .before .before .before .before .o .given .0 .0 ∷ []) (c .before .before .put-move .ensures))
 
 same-length-2 : tie.Need-same-length-2
 same-length-2 c = search needs

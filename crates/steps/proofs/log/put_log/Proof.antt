@@ -11,7 +11,7 @@ use Rattle.laws.specs.Lists.{each}
 use Rattle.access.specs.Accesses.{reading, writing}
 use Rattle.digest.specs.Digests.{flagsAccess}
 use Rattle.implicit.specs.Lists.{implicitOf}
-use Rattle.implicit.specs.declared.Way.the-variants.{Load, Store}
+use Rattle.implicit.specs.declared.Way.the-variants.{Read, Write}
 use Rattle.definition.specs.Behaviors.{operandsOf}
 use Rattle.definition.specs.Steps.{Step, rflags, entrySteps, operandSteps}
 use Rattle.definition.specs.Logs.{stepBytes}
@@ -67,7 +67,7 @@ two :
     Going (stepBytes (file s)) (all s) (written s ∷ explicits s ∷ []) (now (s .args .log)) (back (p .last .0) (p .result) (q .last .0)) (p .result + q .result)
 two c =
     let s = c .before .before .before .before .before .before .before .before .before .before .before in
-    next (one (c .before .before .before .before)) (rw (read-is (c .before .before .before .before .before .before)) at (logged-if (file s) Load (c .before .before .before .before .before .before .before .is-read .result) rflags (c .put-flags .ensures)))
+    next (one (c .before .before .before .before)) (rw (read-is (c .before .before .before .before .before .before)) at (logged-if (file s) Read (c .before .before .before .before .before .before .before .is-read .result) rflags (c .put-flags .ensures)))
 
 three :
     (c : tie.After-put-flags2) → let s = c .before .before .before .before .before .before .before .before .before .before .before .before .before .before .before in
@@ -77,7 +77,7 @@ three :
     Going (stepBytes (file s)) (all s) (explicits s ∷ []) (now (s .args .log)) (back (back (p .last .0) (p .result) (q .last .0)) (p .result + q .result) (r .last .0)) (p .result + q .result + r .result)
 three c =
     let s = c .before .before .before .before .before .before .before .before .before .before .before .before .before .before .before in
-    next (two (c .before .before .before .before)) (rw (write-is (c .before .before .before .before .before .before .before .before .before .before)) at (logged-if (file s) Store (c .before .before .before .before .before .before .before .before .before .before .is-write .result) rflags (c .put-flags2 .ensures)))
+    next (two (c .before .before .before .before)) (rw (write-is (c .before .before .before .before .before .before .before .before .before .before)) at (logged-if (file s) Write (c .before .before .before .before .before .before .before .before .before .before .is-write .result) rflags (c .put-flags2 .ensures)))
 
 four :
     (c : tie.After-put-operands) → let s = c .before .before .before .before .before .before .before .before .before .before .before .before .before .before .before .before .before .before .before in
@@ -114,12 +114,12 @@ part-put-flags-end c = search needs
 put-flags-requires : tie.Need-put-flags-requires
 put-flags-requires c κs =
     let s = c .before .before .before .before .before .before .before .before .before .before in
-    room-if (file s) Load (c .before .before .before .before .before .before .is-read .result) rflags (rw (read-is (c .before .before .before .before .before)) (fits (one (c .before .before .before))))
+    room-if (file s) Read (c .before .before .before .before .before .before .is-read .result) rflags (rw (read-is (c .before .before .before .before .before)) (fits (one (c .before .before .before))))
 
 add-b : tie.Need-add-b
 add-b c =
     let s = c .before .before .before .before .before .before .before .before .before .before .before .before .before in
-    ends (one (c .before .before .before .before .before .before)) (rw (read-is (c .before .before .before .before .before .before .before .before)) at (logged-if (file s) Load (c .before .before .before .before .before .before .before .before .before .is-read .result) rflags (c .before .before .put-flags .ensures)))
+    ends (one (c .before .before .before .before .before .before)) (rw (read-is (c .before .before .before .before .before .before .before .before)) at (logged-if (file s) Read (c .before .before .before .before .before .before .before .before .before .is-read .result) rflags (c .before .before .put-flags .ensures)))
 
 sub-put-flags-2 : tie.Need-sub-put-flags-2
 sub-put-flags-2 c = inside (two (c .before .before))
@@ -133,12 +133,12 @@ part-put-flags-end-2 c = search needs
 put-flags-requires-2 : tie.Need-put-flags-requires-2
 put-flags-requires-2 c κs =
     let s = c .before .before .before .before .before .before .before .before .before .before .before .before .before .before in
-    room-if (file s) Store (c .before .before .before .before .before .before .before .before .before .is-write .result) rflags (rw (write-is (c .before .before .before .before .before .before .before .before .before)) (fits (two (c .before .before .before))))
+    room-if (file s) Write (c .before .before .before .before .before .before .before .before .before .is-write .result) rflags (rw (write-is (c .before .before .before .before .before .before .before .before .before)) (fits (two (c .before .before .before))))
 
 add-c : tie.Need-add-c
 add-c c =
     let s = c .before .before .before .before .before .before .before .before .before .before .before .before .before .before .before .before .before in
-    ends (two (c .before .before .before .before .before .before)) (rw (write-is (c .before .before .before .before .before .before .before .before .before .before .before .before)) at (logged-if (file s) Store (c .before .before .before .before .before .before .before .before .before .before .before .before .is-write .result) rflags (c .before .before .put-flags2 .ensures)))
+    ends (two (c .before .before .before .before .before .before)) (rw (write-is (c .before .before .before .before .before .before .before .before .before .before .before .before)) at (logged-if (file s) Write (c .before .before .before .before .before .before .before .before .before .before .before .before .is-write .result) rflags (c .before .before .put-flags2 .ensures)))
 
 sub-put-operands : tie.Need-sub-put-operands
 sub-put-operands c = inside (three (c .before .before))

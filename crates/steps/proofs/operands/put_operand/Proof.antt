@@ -40,10 +40,10 @@ shape-is c = c .shape-of .ensures ∙ ap shapeOf (c .before .spec .ensures)
 -- what it does, by its shape
 register :
     (c : tie.After-mask-for) → let s = c .before .before .before .before .before .before .before .before .before .before .before .before .before in
-    eventsOf (file s) (steps s) ≡ registerOperand (c .before .reg .result) (c .before .before .before .before .shape .given .0 .1 .0) (c .mask-for .result) (c .before .before .before .before .before .before .before .before .before .is-read .result) (c .before .before .before .before .before .before .before .before .is-write .result)
+    eventsOf (file s) (steps s) ≡ registerOperand (c .before .reg-at .result) (c .before .before .before .before .shape .given .0 .1 .0) (c .mask-for .result) (c .before .before .before .before .before .before .before .before .before .is-read .result) (c .before .before .before .before .before .before .before .before .is-write .result)
 register c =
     let s = c .before .before .before .before .before .before .before .before .before .before .before .before .before in
-    rw (c .before .reg .ensures, c .mask-for .ensures) (register-operand (file s) (s .args .x) (operand s) (read-is (c .before .before .before .before .before .before .before .before)) (write-is (c .before .before .before .before .before .before .before .before)) (c .before .before .before .before .shape .given .0 .0) (c .before .before .before .before .shape .given .0 .1 .0) (sym (shape-is (c .before .before .before .before .before .before)) ∙ c .before .before .before .before .shape .given .1))
+    rw (c .before .reg-at .ensures, c .mask-for .ensures) (register-operand (file s) (s .args .x) (operand s) (read-is (c .before .before .before .before .before .before .before .before)) (write-is (c .before .before .before .before .before .before .before .before)) (c .before .before .before .before .shape .given .0 .0) (c .before .before .before .before .shape .given .0 .1 .0) (sym (shape-is (c .before .before .before .before .before .before)) ∙ c .before .before .before .before .shape .given .1))
 
 fourth :
     (c : tie.After-fourth-of) → let s = c .before .before .before .before .before .before .before .before .before .before .before in
@@ -81,8 +81,8 @@ enum-told c = search needs
 enum-known-shape : tie.Need-enum-known-shape
 enum-known-shape c = search needs
 
-reg-requires : tie.Need-reg-requires
-reg-requires c κs = search needs
+reg-at-requires : tie.Need-reg-at-requires
+reg-at-requires c κs = search needs
 
 mask-for-requires : tie.Need-mask-for-requires
 mask-for-requires c κs = search needs
@@ -163,7 +163,7 @@ put-operand-spec =
     shape-of-requires
     enum-told
     enum-known-shape
-    reg-requires
+    reg-at-requires
     mask-for-requires
     put-register-operand-requires
     enum-told-2

@@ -7,7 +7,7 @@ use Rattle.laws.specs.Lists.{flat}
 use Rattle.laws.specs.Lending.{size}
 use Rattle.laws.proofs.Lending.{Going, first, next, inside, fits, fits-first, ends, whole, keeps, back}
 use mathlib.Core.Bool.{false, cond}
-use Rattle.implicit.specs.declared.Way.the-variants.{Load, Store}
+use Rattle.implicit.specs.declared.Way.the-variants.{Read, Write}
 use Rattle.definition.specs.Steps.{Step}
 use Rattle.definition.specs.Logs.{stepBytes}
 use Rattle.steps.specs.Touches.{memorySteps, memoryOperand}
@@ -20,10 +20,10 @@ abbrev file : tie.Start → RegisterFile
 file s = fileWith (now (s .args .values)) (s .args .known)
 
 abbrev read : tie.Start → List Step
-read s = cond (s .args .read) (memorySteps Load (s .args .a) (s .args .m) (s .args .bytes) (s .args .lea)) []
+read s = cond (s .args .read) (memorySteps Read (s .args .a) (s .args .m) (s .args .bytes) (s .args .lea)) []
 
 abbrev write : tie.Start → List Step
-write s = cond (s .args .write) (memorySteps Store (s .args .a) (s .args .m) (s .args .bytes) false) []
+write s = cond (s .args .write) (memorySteps Write (s .args .a) (s .args .m) (s .args .bytes) false) []
 
 abbrev all : tie.Start → List Step
 all s = flat (read s ∷ write s ∷ [])

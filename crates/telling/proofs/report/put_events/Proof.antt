@@ -11,7 +11,7 @@ use Rattle.laws.proofs.OneByOne.{begins, no-more}
 use Rattle.definition.specs.Readings.{readAt}
 use Rattle.definition.specs.declared.Reading.{Reading}
 use Rattle.definition.specs.declared.Reading.the-variants.{Found}
-use Rattle.event.proofs.Fronts.{Moves, moves}
+use Rattle.event.proofs.Fronts.{Moves, goes-on}
 use Rattle.telling.specs.Words.{wordBytes, lineOf}
 use Rattle.telling.specs.Reports.{linedBy, linesOf}
 use Rattle.telling.proofs.Walks.{left, whole, unrolled, stopped, parted}
@@ -58,7 +58,7 @@ further :
 further c =
     let log = c .before .before .before .before .before .before .before .args .log .now in
     let at = c .before .before .before .before .loop .at in
-    subst (Moves log at) (read c) (moves log at)
+    subst (Moves log at) (read c) (goes-on log at)
 
 ready :
     (c : tie.After-known-told Inv-loop μ-loop) → let s = c .before .before .before .before .before .before .before in let l = c .before .before .before .before .loop in

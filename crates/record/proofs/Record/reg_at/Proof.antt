@@ -3,8 +3,8 @@ use native.Mathlib.Omega.{arith}
 use lib.ListN.{length, length-map, List·getD-eq-default}
 use Rattle.registers.specs.Banks.{reg}
 use borrow.Author.Needs.{needs}
-use Rattle.record.proofs.Record.reg.Statement.{statement}
-use Rattle.record.proofs.Record.reg.Tie as tie
+use Rattle.record.proofs.Record.reg_at.Statement.{statement}
+use Rattle.record.proofs.Record.reg_at.Tie as tie
 
 mul-result : tie.Need-mul-result
 mul-result c = search needs
@@ -21,5 +21,5 @@ returns-2 c =
     let four : length regs ≡ 4 = simp length-map at (c .before .before .good .0 .1 .1 .1 .1 .1 .0 .1 .0 .1) in
     sym (List·getD-eq-default regs (reg 0 0) {n = c .before .before .args .i} (omega (arith, four)))
 
-pub reg-spec : {M : Type 1} → statement M
-reg-spec = tie.close (tie.spec mul-result array-copy-out-result returns returns-2)
+pub reg-at-spec : {M : Type 1} → statement M
+reg-at-spec = tie.close (tie.spec mul-result array-copy-out-result returns returns-2)
