@@ -4,9 +4,15 @@ use mathlib.Core.Bool.{Bool, false, not, cond}
 use lib.Dec.{ltb, eqb}
 use Rattle.laws.specs.Words.{bit}
 use Rattle.access.specs.Fields.{withField}
+use Rattle.access.specs.declared.Exception.{Exception}
 use Rattle.access.specs.declared.ExceptionInfo.{ExceptionInfo}
 use Rattle.access.specs.declared.InfoAnswer.{InfoAnswer}
+use Rattle.access.specs.declared.InfoAnswer.the-variants as infos
 use Rattle.access.specs.declared.MayAnswer.{MayAnswer}
+use Rattle.access.specs.declared.MayAnswer.the-variants as mays
+
+abbrev pub exceptionOf : ℕ → Exception
+exceptionOf v = record { vector = v }
 
 abbrev pub infoOf : ℕ → ExceptionInfo
 infoOf v = record { vectors = v }
@@ -22,10 +28,31 @@ noneOf i = not (anyOf i)
 unfoldable pub withBit : ℕ → ℕ → Bool → ℕ
 withBit v k b = withField v (2 ^ k) 2 (cond b 1 0)
 
--- a vector above 31 is refused 2, and every other number is 0
+-- a vector above 31 is refused 2
 unfoldable pub setOf : ExceptionInfo → ℕ → Bool → InfoAnswer
-setOf i k b =
-    cond (ltb 31 k) (record { number = 2; info = infoOf 0 }) (record { number = 0; info = infoOf (withBit (i .vectors) k b) })
+setOf i k b = cond (ltb 31 k) (infos.Refused 2) (infos.Done (infoOf (withBit (i .vectors) k b)))
 
 unfoldable pub mayOf : ExceptionInfo → ℕ → MayAnswer
-mayOf i k = cond (ltb 31 k) (record { number = 2; may = false }) (record { number = 0; may = bit (i .vectors) k })
+mayOf i k = cond (ltb 31 k) (mays.Refused 2) (mays.Done (bit (i .vectors) k))
+
+-- in a chain the first refusal stands
+abbrev pub thenSet : InfoAnswer → ℕ → Bool → InfoAnswer
+thenSet (infos.Done i) k b = setOf i k b
+thenSet (infos.Refused n) k b = infos.Refused n
+
+-- document 01's number of an answer, and the values that it carries: 0 where it is refused
+abbrev pub infoNumber : InfoAnswer → ℕ
+infoNumber (infos.Done i) = 0
+infoNumber (infos.Refused n) = n
+
+abbrev pub infoVectors : InfoAnswer → ℕ
+infoVectors (infos.Done i) = i .vectors
+infoVectors (infos.Refused n) = 0
+
+abbrev pub mayNumber : MayAnswer → ℕ
+mayNumber (mays.Done b) = 0
+mayNumber (mays.Refused n) = n
+
+abbrev pub mayValue : MayAnswer → Bool
+mayValue (mays.Done b) = b
+mayValue (mays.Refused n) = false

@@ -1,13 +1,13 @@
 // An access as two bits, and its read and write parts.
 ghost use mathlib.Core.Path.{_≡_};
 ghost use Prim.Native.Nat.{_%_};
-ghost use Rattle.access.specs.Accesses.{accessNumber, reading, writing};
+ghost use Rattle.access.specs.Accesses.{accessNumber, accessOf, reading, writing};
 use crate::Access;
 
 impl Access {
     // The two low bits decide, and the others count for nothing.
     pub fn from_bits(bits: u8) -> Access
-        ensures { λ r. ⌜ accessNumber r ≡ bits % 4 ⌝ }
+        ensures { λ r. ⌜ r ≡ accessOf (bits % 4) ⌝ }
     {
         match bits % 4 {
             0 => Access::None,

@@ -1,7 +1,7 @@
 // Exception vectors, and sets of them.
 ghost use mathlib.Core.Path.{_≡_};
 ghost use Prim.Native.Nat.{_<_};
-ghost use Rattle.access.specs.Exceptions.{infoOf, anyOf, noneOf, setOf, mayOf, withBit};
+ghost use Rattle.access.specs.Exceptions.{exceptionOf, infoOf, anyOf, noneOf, setOf, thenSet, mayOf, withBit};
 use crate::Exception;
 use crate::ExceptionInfo;
 use crate::InfoAnswer;
@@ -54,7 +54,7 @@ impl Exception {
     pub const CP: Exception = Exception { vector: 21 };
 
     pub fn vector(vector: u8) -> Exception
-        ensures { λ r. ⌜ r .vector ≡ vector ⌝ }
+        ensures { λ r. ⌜ r ≡ exceptionOf vector ⌝ }
     {
         Exception { vector: vector }
     }
@@ -101,15 +101,9 @@ impl ExceptionInfo {
     {
         let k = e.vector as u32;
         if LAST_VECTOR < k {
-            return MayAnswer {
-                number: 2,
-                may: false,
-            };
+            return MayAnswer::Refused(2);
         }
-        MayAnswer {
-            number: 0,
-            may: (self.vectors >> k) % 2 == 1,
-        }
+        MayAnswer::Done((self.vectors >> k) % 2 == 1)
     }
 
     // The set with the exception in it or not, as b says. A vector above 31 is refused 2.
@@ -118,22 +112,28 @@ impl ExceptionInfo {
     {
         let k = e.vector as u32;
         if LAST_VECTOR < k {
-            return InfoAnswer {
-                number: 2,
-                info: ExceptionInfo::empty(),
-            };
+            return InfoAnswer::Refused(2);
         }
         self.vectors = with_bit(self.vectors, k, b);
-        InfoAnswer {
-            number: 0,
-            info: self,
-        }
+        InfoAnswer::Done(self)
     }
 
-    // `set`, by the name that reads well in a chain, which goes on by `.info`.
+    // `set`, by the name that reads well in a chain.
     pub fn with(self, e: Exception, b: bool) -> InfoAnswer
         ensures { λ r. ⌜ r ≡ setOf self (e .vector) b ⌝ }
     {
         self.set(e, b)
+    }
+}
+
+// A chain of settings: the first refusal stands.
+impl InfoAnswer {
+    pub fn with(self, e: Exception, b: bool) -> InfoAnswer
+        ensures { λ r. ⌜ r ≡ thenSet self (e .vector) b ⌝ }
+    {
+        match self {
+            InfoAnswer::Done(info) => info.set(e, b),
+            InfoAnswer::Refused(number) => InfoAnswer::Refused(number),
+        }
     }
 }

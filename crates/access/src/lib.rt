@@ -29,14 +29,14 @@ pub struct ExceptionInfo {
     pub vectors: u32,
 }
 
-// What setting a vector answers: the set in `info`, or a refusal number and the empty set.
-pub struct InfoAnswer {
-    pub number: u8,
-    pub info: ExceptionInfo,
+// What setting a vector answers: the set, or a refusal number.
+pub enum InfoAnswer {
+    Done(ExceptionInfo),
+    Refused(u8),
 }
 
 // What asking for a vector answers.
-pub struct MayAnswer {
-    pub number: u8,
-    pub may: bool,
+pub enum MayAnswer {
+    Done(bool),
+    Refused(u8),
 }

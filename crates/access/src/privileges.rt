@@ -1,13 +1,13 @@
 // A privilege level as two bits.
 ghost use mathlib.Core.Path.{_≡_};
 ghost use Prim.Native.Nat.{_%_};
-ghost use Rattle.access.specs.Privileges.{levelNumber};
+ghost use Rattle.access.specs.Privileges.{levelNumber, levelOf};
 use crate::PrivilegeLevel;
 
 impl PrivilegeLevel {
     // The two low bits decide, and the others count for nothing.
     pub fn from_bits(bits: u8) -> PrivilegeLevel
-        ensures { λ r. ⌜ levelNumber r ≡ bits % 4 ⌝ }
+        ensures { λ r. ⌜ r ≡ levelOf (bits % 4) ⌝ }
     {
         match bits % 4 {
             0 => PrivilegeLevel::Any,

@@ -8,11 +8,13 @@ use Rattle.laws.specs.Tests.{any, someOf}
 use Rattle.access.specs.Exceptions.{infoOf}
 use Rattle.access.specs.Privileges.{levelOf}
 use Rattle.access.specs.declared.InfoAnswer.{InfoAnswer}
-use Rattle.access.specs.declared.PrivilegeLevel.the-variants.{Any}
+use Rattle.access.specs.declared.InfoAnswer.the-variants as infos
+use Rattle.access.specs.declared.PrivilegeLevel.{PrivilegeLevel}
 use Rattle.registers.specs.Banks.{widthOf}
-use Rattle.digest.specs.Digests.{emptyDigest, privilegeOf, accessAt, isNontrivial, isComplex, withAccess, withList}
+use Rattle.digest.specs.Digests.{privilegeOf, accessAt, isNontrivial, isComplex, withAccess, withList}
 use Rattle.digest.specs.declared.BehaviorDigest.{BehaviorDigest}
 use Rattle.digest.specs.declared.DigestAnswer.{DigestAnswer}
+use Rattle.digest.specs.declared.DigestAnswer.the-variants as digests
 use Rattle.implicit.specs.Lists.{implicitOf}
 use Rattle.implicit.specs.Memory.{memoryEntry}
 use Rattle.record.specs.Records.{recordOf, recordRefusal, specAt, regAt, vexW, rexW, operandSize, addressSize}
@@ -21,6 +23,7 @@ use Rattle.definition.specs.Tables.{shapeOf, Rule, no-rule, mul, imul, d
 use Rattle.definition.specs.declared.Shape.{Shape}
 use Rattle.definition.specs.declared.Shape.the-variants.{Nothing, Register, Fourth, Immediate, Memory}
 use Rattle.definition.specs.declared.PrivilegeAnswer.{PrivilegeAnswer}
+use Rattle.definition.specs.declared.PrivilegeAnswer.the-variants as privileges
 
 -- an access that a fix-up sets
 abbrev none : ℕ
@@ -132,21 +135,24 @@ mayProtect x = not (eqb (privilegeOf (x .digest)) 0)
 unfoldable pub exceptionsOf : Record → ℕ
 exceptionsOf x = cond (mayProtect x) (2 ^ 13) 0 + cond (mayFault x) (2 ^ 14) 0
 
--- The answers over a record's bytes: refusals 1 and 2, and then every other number is 0
+-- what a call answers over a record's bytes: the refusal that they give, or what it says of the record
+abbrev pub overRecord : {A : Type 0} → (ℕ → A) → (Record → A) → List ℕ → A
+overRecord refused says b = cond (eqb (recordRefusal b) 0) (says (recordOf b)) (refused (recordRefusal b))
+
 unfoldable pub digestCall : List ℕ → DigestAnswer
-digestCall b =
-    cond (eqb (recordRefusal b) 0)
-    (record { number = 0; digest = digestOf (recordOf b) })
-    (record { number = recordRefusal b; digest = emptyDigest })
+digestCall b = overRecord digests.Refused (λ (x : Record). digests.Done (digestOf x)) b
 
 unfoldable pub privilegeCall : List ℕ → PrivilegeAnswer
-privilegeCall b =
-    cond (eqb (recordRefusal b) 0)
-    (record { number = 0; level = levelOf (privilegeOf (digestOf (recordOf b))) })
-    (record { number = recordRefusal b; level = Any })
+privilegeCall b = overRecord privileges.Refused (λ (x : Record). privileges.Done (levelOf (privilegeOf (digestOf x)))) b
 
 unfoldable pub exceptionsCall : List ℕ → InfoAnswer
-exceptionsCall b =
-    cond (eqb (recordRefusal b) 0)
-    (record { number = 0; info = infoOf (exceptionsOf (fixedUp (recordOf b))) })
-    (record { number = recordRefusal b; info = infoOf 0 })
+exceptionsCall b = overRecord infos.Refused (λ (x : Record). infos.Done (infoOf (exceptionsOf (fixedUp x)))) b
+
+-- document 01's number of the privilege call's answer, and its level: that of number 0 where it is refused
+abbrev pub privilegeNumber : PrivilegeAnswer → ℕ
+privilegeNumber (privileges.Done l) = 0
+privilegeNumber (privileges.Refused n) = n
+
+abbrev pub privilegeIn : PrivilegeAnswer → PrivilegeLevel
+privilegeIn (privileges.Done l) = l
+privilegeIn (privileges.Refused n) = levelOf 0

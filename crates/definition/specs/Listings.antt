@@ -19,7 +19,7 @@ use Rattle.implicit.specs.declared.ImplicitOperand.{ImplicitOperand}
 use Rattle.implicit.specs.declared.ImplicitOperand.the-variants.{Register, MemDeref, Disp, MemBaseIndexScale}
 use Rattle.implicit.specs.declared.Entry.{Entry}
 use Rattle.implicit.specs.declared.Entry.the-variants.{Operand, Slot, End}
-use Rattle.record.specs.Records.{isRecord, recordOf, outside, specAt}
+use Rattle.record.specs.Records.{recordOf, recordTests, specAt}
 use Rattle.record.specs.declared.Record.{Record}
 use Rattle.definition.specs.Behaviors.{complex}
 use Rattle.definition.specs.Refusals.{noRoom}
@@ -75,11 +75,10 @@ listingOf x = each itemBytes (itemsOf x)
 unfoldable pub listingRefusal : List ℕ → List ℕ → ℕ → ℕ
 listingRefusal b buffer start =
     firstOf
-    ((not (isRecord b), 1)
-    ∷ (outside (recordOf b), 2)
-    ∷ (complex (fixedRecord b), 4)
+    (recordTests b
+    ++ ((complex (fixedRecord b), 4)
     ∷ (noRoom (length (listingOf (fixedRecord b))) buffer start, 7)
-    ∷ [])
+    ∷ []))
 
 unfoldable pub listingCall : List ℕ → List ℕ → ℕ → Answer × List ℕ
 listingCall b buffer start = outcome (listingRefusal b buffer start) (recordOf b .opcode) (listingOf (fixedRecord b)) buffer start

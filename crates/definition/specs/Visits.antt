@@ -1,6 +1,6 @@
 -- Visiting: the refusals in their order, and the log in its place in the buffer.
 use Prim.Native.Nat.{ℕ}
-use mathlib.Core.List.{List, [], _∷_}
+use mathlib.Core.List.{List, [], _∷_, _++_}
 use mathlib.Core.Bool.{Bool, false, not, cond}
 use lib.ListN.{length}
 use lib.Dec.{eqb}
@@ -8,7 +8,7 @@ use Rattle.laws.specs.Tests.{firstOf}
 use Rattle.laws.specs.Lending.{splice}
 use Rattle.registers.specs.Files.{fileOf, isFile}
 use Rattle.registers.specs.declared.RegisterFile.{RegisterFile}
-use Rattle.record.specs.Records.{isRecord, recordOf, outside}
+use Rattle.record.specs.Records.{recordOf, recordTests}
 use Rattle.record.specs.declared.Record.{Record}
 use Rattle.definition.specs.Behaviors.{fixedUp, complex}
 use Rattle.definition.specs.Steps.{stepsOf}
@@ -30,14 +30,13 @@ logOf b f = eventsOf f (stepsOf (fixedRecord b))
 unfoldable pub refusalOf : Bool → List ℕ → RegisterFile → List ℕ → ℕ → ℕ
 refusalOf bad b f buffer start =
     firstOf
-    ((not (isRecord b), 1)
-    ∷ (outside (recordOf b), 2)
-    ∷ (bad, 3)
+    (recordTests b
+    ++ ((bad, 3)
     ∷ (complex (fixedRecord b), 4)
     ∷ (nameless (fixedRecord b), 5)
     ∷ (sizeless (fixedRecord b), 6)
     ∷ (noRoom (length (bytesOf (logOf b f))) buffer start, 7)
-    ∷ [])
+    ∷ []))
 
 -- an answer and the buffer that it leaves: bytes written from the start, or a refusal that changes nothing; 4 carries the opcode
 unfoldable pub outcome : ℕ → ℕ → List ℕ → List ℕ → ℕ → Answer × List ℕ

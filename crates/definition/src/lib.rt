@@ -73,8 +73,8 @@ pub enum Answer {
     Complex(u16),
 }
 
-// What the privilege call answers: the level, or a refusal number and `Any`.
-pub struct PrivilegeAnswer {
-    pub number: u8,
-    pub level: PrivilegeLevel,
+// What the privilege call answers: the level, or a refusal number.
+pub enum PrivilegeAnswer {
+    Done(PrivilegeLevel),
+    Refused(u8),
 }

@@ -1,14 +1,18 @@
 -- What a setter leaves of each reader, and which answers are refusals. Assumes nothing.
-use Prim.Native.Nat.{ℕ, _+_, _*_, _/_, _%_, _≤_, _<_}
+use Prim.Native.Nat.{ℕ, _+_, _*_, _/_, _%_, _^_, _≤_, _<_}
 use native.Mathlib.Nat.{div-eq-of-lt, lt-of-lt-of-le, pow-le-pow-right}
 use native.Mathlib.Omega.{arith}
-use mathlib.Core.Path.{_≡_, refl, ap}
+use mathlib.Core.Path.{_≡_, refl, ap, _∙_}
 use lib.Dec.{lit≤}
 use borrow.Author.Tests.{lt-ltb, le-ltb}
+use Rattle.access.specs.Accesses.{accessNumber, accessOf}
+use Rattle.access.specs.declared.Access.{Access}
+use Rattle.access.proofs.Laws.{access-number}
 use Rattle.access.specs.Fields.{fieldAt, withField}
 use Rattle.access.proofs.Fields.{field-same, field-above, field-below, side-same, side-other, side-bound}
 use Rattle.digest.specs.declared.BehaviorDigest.{BehaviorDigest}
-use Rattle.digest.specs.Digests.{accessAt, withBehavior, withAccess, withList, taken, refused, operandAnswer, listAnswer}
+use Rattle.digest.specs.declared.DigestAnswer.the-variants.{Done, Refused}
+use Rattle.digest.specs.Digests.{flagsAccess, accessAt, withBehavior, withAccess, withList, operandAnswer, listAnswer}
 
 -- an operand's access, once it is set, and any other operand's
 module _ (d : BehaviorDigest) (a : ℕ) (h : a < 4) where
@@ -24,6 +28,14 @@ module _ (d : BehaviorDigest) (a : ℕ) (h : a < 4) where
   pub access-bound : (i : ℕ) → i ≤ 3 → d .operands < 256 → withAccess i a d .operands < 256
   unfolding withAccess
   access-bound i l b = side-bound (d .operands) 4 a h i 4 (omega arith) b
+
+-- an access that a digest gives, as its number
+module _ {a : Access} (d : BehaviorDigest) where
+  pub flags-number : a ≡ accessOf (flagsAccess d) → accessNumber a ≡ flagsAccess d
+  flags-number e = ap accessNumber e ∙ access-number (d .behavior / 4)
+
+  pub operand-number : (i : ℕ) → a ≡ accessOf (accessAt d i) → accessNumber a ≡ accessAt d i
+  operand-number i e = ap accessNumber e ∙ access-number (d .operands / 4 ^ i)
 
 -- there are four operands in a byte
 pub access-none : (d : BehaviorDigest) (i : ℕ) → d .operands < 256 → 3 < i → accessAt d i ≡ 0
@@ -75,18 +87,18 @@ module _ (d : BehaviorDigest) where
   unfolding withList
   list-extra l = refl
 
-  pub operand-taken : (i a : ℕ) → i ≤ 3 → operandAnswer i a d ≡ taken (withAccess i a d)
+  pub operand-taken : (i a : ℕ) → i ≤ 3 → operandAnswer i a d ≡ Done (withAccess i a d)
   unfolding operandAnswer
   operand-taken i a h = rw (le-ltb 3 i h)
 
-  pub operand-refused : (i a : ℕ) → 3 < i → operandAnswer i a d ≡ refused
+  pub operand-refused : (i a : ℕ) → 3 < i → operandAnswer i a d ≡ Refused 2
   unfolding operandAnswer
   operand-refused i a h = rw (lt-ltb 3 i h)
 
-  pub list-taken : (l : ℕ) → l ≤ 28 → listAnswer l d ≡ taken (withList l d)
+  pub list-taken : (l : ℕ) → l ≤ 28 → listAnswer l d ≡ Done (withList l d)
   unfolding listAnswer
   list-taken l h = rw (le-ltb 28 l h)
 
-  pub list-refused : (l : ℕ) → 28 < l → listAnswer l d ≡ refused
+  pub list-refused : (l : ℕ) → 28 < l → listAnswer l d ≡ Refused 2
   unfolding listAnswer
   list-refused l h = rw (lt-ltb 28 l h)

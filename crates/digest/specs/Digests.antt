@@ -7,6 +7,7 @@ use Rattle.laws.specs.Words.{bit}
 use Rattle.access.specs.Fields.{fieldAt, withField}
 use Rattle.digest.specs.declared.BehaviorDigest.{BehaviorDigest}
 use Rattle.digest.specs.declared.DigestAnswer.{DigestAnswer}
+use Rattle.digest.specs.declared.DigestAnswer.the-variants.{Done, Refused}
 
 abbrev pub emptyDigest : BehaviorDigest
 emptyDigest = record { behavior = 0; operands = 0; extra = 0 }
@@ -50,17 +51,23 @@ withAccess i a d =
 unfoldable pub withList : ℕ → BehaviorDigest → BehaviorDigest
 withList l d = record { behavior = d .behavior; operands = d .operands; extra = l }
 
--- a setter's answers: the digest, or the refusal 2, and then every other number is 0
-abbrev pub taken : BehaviorDigest → DigestAnswer
-taken d = record { number = 0; digest = d }
-
-abbrev pub refused : DigestAnswer
-refused = record { number = 2; digest = emptyDigest }
-
--- an operand above 3 is refused
+-- a setter's answers: an operand above 3 and a list above 28 are refused 2
 unfoldable pub operandAnswer : ℕ → ℕ → BehaviorDigest → DigestAnswer
-operandAnswer i a d = cond (ltb 3 i) refused (taken (withAccess i a d))
+operandAnswer i a d = cond (ltb 3 i) (Refused 2) (Done (withAccess i a d))
 
--- a list above 28 is refused
 unfoldable pub listAnswer : ℕ → BehaviorDigest → DigestAnswer
-listAnswer l d = cond (ltb 28 l) refused (taken (withList l d))
+listAnswer l d = cond (ltb 28 l) (Refused 2) (Done (withList l d))
+
+-- in a chain the first refusal stands
+abbrev pub then : DigestAnswer → (BehaviorDigest → DigestAnswer) → DigestAnswer
+then (Done d) f = f d
+then (Refused n) f = Refused n
+
+-- document 01's number of an answer, and the digest that it carries: where it is refused every number is 0
+abbrev pub digestNumber : DigestAnswer → ℕ
+digestNumber (Done d) = 0
+digestNumber (Refused n) = n
+
+abbrev pub digestIn : DigestAnswer → BehaviorDigest
+digestIn (Done d) = d
+digestIn (Refused n) = emptyDigest

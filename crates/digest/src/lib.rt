@@ -2,11 +2,11 @@
 ghost use mathlib.Core.Path.{_≡_};
 ghost use mathlib.Core.Bool.{cond};
 ghost use Prim.Native.Nat.{_<_};
-ghost use Rattle.access.specs.Accesses.{accessNumber};
-ghost use Rattle.access.specs.Privileges.{levelNumber};
+ghost use Rattle.access.specs.Accesses.{accessNumber, accessOf};
+ghost use Rattle.access.specs.Privileges.{levelOf};
 ghost use Rattle.digest.specs.Digests.{emptyDigest, privilegeOf, flagsAccess, accessAt, isNontrivial, isComplex};
 ghost use Rattle.digest.specs.Digests.{withPrivilege, withFlags, withNontrivial, withComplex};
-ghost use Rattle.digest.specs.Digests.{taken, refused, operandAnswer, listAnswer};
+ghost use Rattle.digest.specs.Digests.{operandAnswer, listAnswer, then};
 use access::Access;
 use access::PrivilegeLevel;
 
@@ -17,10 +17,10 @@ pub struct BehaviorDigest {
     pub extra: u16,
 }
 
-// What a setter that can refuse answers: the digest, or a refusal number and the empty digest.
-pub struct DigestAnswer {
-    pub number: u8,
-    pub digest: BehaviorDigest,
+// What a setter that can refuse answers: the digest, or a refusal number.
+pub enum DigestAnswer {
+    Done(BehaviorDigest),
+    Refused(u8),
 }
 
 // An access and a state as numbers, with the bounds that the sums below rest on.
@@ -34,25 +34,6 @@ fn one_bit(state: bool) -> u8
     ensures { λ r. ⌜ (r ≡ cond state 1 0) × (r < 2) ⌝ }
 {
     if state { 1 } else { 0 }
-}
-
-fn taken_answer(digest: BehaviorDigest) -> DigestAnswer
-    ensures { λ r. ⌜ r ≡ taken digest ⌝ }
-{
-    DigestAnswer {
-        number: 0,
-        digest: digest,
-    }
-}
-
-// An operand or a list that there is not.
-fn refused_answer() -> DigestAnswer
-    ensures { λ r. ⌜ r ≡ refused ⌝ }
-{
-    DigestAnswer {
-        number: 2,
-        digest: BehaviorDigest::empty(),
-    }
 }
 
 impl BehaviorDigest {
@@ -93,7 +74,7 @@ impl BehaviorDigest {
     }
 
     pub fn privilege_level(self) -> PrivilegeLevel
-        ensures { λ r. ⌜ levelNumber r ≡ privilegeOf self ⌝ }
+        ensures { λ r. ⌜ r ≡ levelOf (privilegeOf self) ⌝ }
     {
         PrivilegeLevel::from_bits(self.behavior)
     }
@@ -107,7 +88,7 @@ impl BehaviorDigest {
     }
 
     pub fn flags_access(self) -> Access
-        ensures { λ r. ⌜ accessNumber r ≡ flagsAccess self ⌝ }
+        ensures { λ r. ⌜ r ≡ accessOf (flagsAccess self) ⌝ }
     {
         Access::from_bits(self.behavior / 4)
     }
@@ -121,27 +102,27 @@ impl BehaviorDigest {
         match operand {
             0 => {
                 self.operands = x / 4 * 4 + a;
-                taken_answer(self)
+                DigestAnswer::Done(self)
             }
             1 => {
                 self.operands = x / 16 * 16 + a * 4 + x % 4;
-                taken_answer(self)
+                DigestAnswer::Done(self)
             }
             2 => {
                 self.operands = x / 64 * 64 + a * 16 + x % 16;
-                taken_answer(self)
+                DigestAnswer::Done(self)
             }
             3 => {
                 self.operands = a * 64 + x % 64;
-                taken_answer(self)
+                DigestAnswer::Done(self)
             }
-            _ => refused_answer(),
+            _ => DigestAnswer::Refused(2),
         }
     }
 
     // No access for an operand above 3: there is none.
     pub fn operand_access(self, operand: u8) -> Access
-        ensures { λ r. ⌜ accessNumber r ≡ accessAt self operand ⌝ }
+        ensures { λ r. ⌜ r ≡ accessOf (accessAt self operand) ⌝ }
     {
         if 3 < operand {
             return Access::None;
@@ -154,10 +135,10 @@ impl BehaviorDigest {
         ensures { λ r. ⌜ r ≡ listAnswer list self ⌝ }
     {
         if 28 < list {
-            return refused_answer();
+            return DigestAnswer::Refused(2);
         }
         self.extra = list;
-        taken_answer(self)
+        DigestAnswer::Done(self)
     }
 
     pub fn implicit_list(self) -> u16
@@ -192,5 +173,26 @@ impl BehaviorDigest {
         ensures { λ r. ⌜ r ≡ isComplex self ⌝ }
     {
         self.behavior / 32 % 2 == 1
+    }
+}
+
+// A chain of setters that can refuse: the first refusal stands.
+impl DigestAnswer {
+    pub fn set_operand(self, operand: u8, access: Access) -> DigestAnswer
+        ensures { λ r. ⌜ r ≡ then self (operandAnswer operand (accessNumber access)) ⌝ }
+    {
+        match self {
+            DigestAnswer::Done(digest) => digest.set_operand(operand, access),
+            DigestAnswer::Refused(number) => DigestAnswer::Refused(number),
+        }
+    }
+
+    pub fn set_implicit_ops(self, list: u16) -> DigestAnswer
+        ensures { λ r. ⌜ r ≡ then self (listAnswer list) ⌝ }
+    {
+        match self {
+            DigestAnswer::Done(digest) => digest.set_implicit_ops(list),
+            DigestAnswer::Refused(number) => DigestAnswer::Refused(number),
+        }
     }
 }

@@ -6,10 +6,18 @@ use lib.Dec.{eqb}
 use borrow.Author.Tests.{eq-eqb, ne-eqb}
 use mathlib.Core.Bool.{Bool, true, false, cond}
 use Rattle.access.specs.Exceptions.{withBit}
+use Rattle.digest.specs.declared.BehaviorDigest.{BehaviorDigest}
+use Rattle.digest.specs.declared.DigestAnswer.{DigestAnswer}
+use Rattle.digest.specs.declared.DigestAnswer.the-variants.{Done, Refused}
 use Rattle.record.specs.Records.{recordOf, recordRefusal, recordAnswer}
 use Rattle.record.specs.declared.Record.{Record}
 use Rattle.record.specs.declared.RecordAnswer.{RecordAnswer}
 use Rattle.record.proofs.Laws.{number-is, read-is}
+
+-- the digest of an answer, or another where it is refused
+abbrev pub digestOr : BehaviorDigest → DigestAnswer → BehaviorDigest
+digestOr d (Done e) = e
+digestOr d (Refused n) = d
 
 pub two-vectors : (p f : Bool) → withBit (withBit 0 13 p) 14 f ≡ cond p (2 ^ 13) 0 + cond f (2 ^ 14) 0
 unfolding withBit

@@ -2,13 +2,13 @@
 use access::Exception;
 use access::ExceptionInfo;
 use access::InfoAnswer;
-use access::PrivilegeLevel;
 use definition::PrivilegeAnswer;
 use digest::BehaviorDigest;
 use digest::DigestAnswer;
 use record::Record;
 ghost use mathlib.Core.Path.{_≡_};
 ghost use Rattle.access.specs.Exceptions.{infoOf};
+ghost use Rattle.access.specs.declared.InfoAnswer.the-variants.{Done};
 ghost use Rattle.definition.specs.Behaviors.{digestOf, fixedUp, complex, mayProtect, exceptionsOf, digestCall, privilegeCall, exceptionsCall};
 
 mod memory;
@@ -61,30 +61,23 @@ fn may_protect(x: Record) -> bool
 }
 
 // The exceptions that a record, after fix-ups, may raise.
-pub fn exceptions_of(x: Record) -> ExceptionInfo
-    ensures { λ r. ⌜ r ≡ infoOf (exceptionsOf x) ⌝ }
+pub fn exceptions_of(x: Record) -> InfoAnswer
+    ensures { λ r. ⌜ r ≡ Done (infoOf (exceptionsOf x)) ⌝ }
 {
-    let protection = ExceptionInfo::empty()
+    ExceptionInfo::empty()
         .set(Exception::GP, may_protect(x))
-        .info;
-    protection.set(Exception::PF, memory::may_fault(x)).info
+        .with(Exception::PF, memory::may_fault(x))
 }
 
-// The calls over a record's bytes. Each gives refusal 1 or 2, and then every other number is 0.
+// The calls over a record's bytes. Each gives refusal 1 or 2.
 pub fn digest_answer(b: &[u8]) -> DigestAnswer
     ensures { λ r. ⌜ r ≡ digestCall (now (b .entry)) ⌝ }
 {
     let answer = Record::from_bytes(b);
     if answer.number != 0 {
-        return DigestAnswer {
-            number: answer.number,
-            digest: BehaviorDigest::empty(),
-        };
+        return DigestAnswer::Refused(answer.number);
     }
-    DigestAnswer {
-        number: 0,
-        digest: digest_of(answer.read),
-    }
+    DigestAnswer::Done(digest_of(answer.read))
 }
 
 pub fn privilege_answer(b: &[u8]) -> PrivilegeAnswer
@@ -92,15 +85,9 @@ pub fn privilege_answer(b: &[u8]) -> PrivilegeAnswer
 {
     let answer = Record::from_bytes(b);
     if answer.number != 0 {
-        return PrivilegeAnswer {
-            number: answer.number,
-            level: PrivilegeLevel::Any,
-        };
+        return PrivilegeAnswer::Refused(answer.number);
     }
-    PrivilegeAnswer {
-        number: 0,
-        level: digest_of(answer.read).privilege_level(),
-    }
+    PrivilegeAnswer::Done(digest_of(answer.read).privilege_level())
 }
 
 pub fn exceptions_answer(b: &[u8]) -> InfoAnswer
@@ -108,13 +95,7 @@ pub fn exceptions_answer(b: &[u8]) -> InfoAnswer
 {
     let answer = Record::from_bytes(b);
     if answer.number != 0 {
-        return InfoAnswer {
-            number: answer.number,
-            info: ExceptionInfo::empty(),
-        };
+        return InfoAnswer::Refused(answer.number);
     }
-    InfoAnswer {
-        number: 0,
-        info: exceptions_of(fixed_up(answer.read)),
-    }
+    exceptions_of(fixed_up(answer.read))
 }

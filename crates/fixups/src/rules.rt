@@ -1,6 +1,7 @@
 // The fix-ups: what an opcode, its operand count and its prefixes change in the digest. One function for each rule.
 use access::Access;
 use digest::BehaviorDigest;
+use digest::DigestAnswer;
 use record::Record;
 ghost use mathlib.Core.Path.{_≡_};
 ghost use mathlib.Core.Bool.{cond};
@@ -26,7 +27,10 @@ fn with_list(d: BehaviorDigest, list: u16) -> BehaviorDigest
     requires { ⌜ list ≤ 28 ⌝ }
     ensures { λ r. ⌜ r ≡ withList list d ⌝ }
 {
-    d.set_implicit_ops(list).digest
+    let DigestAnswer::Done(changed) = d.set_implicit_ops(list) else {
+        return d;
+    };
+    changed
 }
 
 fn one_list_of(d: BehaviorDigest, test: bool, yes: u16, no: u16) -> BehaviorDigest
@@ -44,7 +48,10 @@ fn with_access(d: BehaviorDigest, operand: u8, access: Access) -> BehaviorDigest
     requires { ⌜ operand ≤ 3 ⌝ }
     ensures { λ r. ⌜ r ≡ withAccess operand (accessNumber access) d ⌝ }
 {
-    d.set_operand(operand, access).digest
+    let DigestAnswer::Done(changed) = d.set_operand(operand, access) else {
+        return d;
+    };
+    changed
 }
 
 fn operand_width(x: Record) -> u8

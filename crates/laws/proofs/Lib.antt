@@ -8,3 +8,4 @@ pub mod Choice
 pub mod Numbers
 pub mod Bits
 pub mod Keys
+pub mod Outcomes

@@ -3,3 +3,4 @@ pub mod Words
 pub mod Tests
 pub mod Lists
 pub mod Lending
+pub mod Outcomes

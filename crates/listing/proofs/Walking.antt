@@ -26,7 +26,7 @@ use Rattle.definition.specs.Listings.{entryItems, explicitAt, flagItems, itemsO
 use Rattle.listing.specs.declared.AccessIter.{AccessIter}
 use Rattle.listing.specs.declared.Listed.{Listed}
 use Rattle.listing.specs.declared.Listed.the-variants.{Found, Finished}
-use Rattle.listing.specs.Cursors.{place, explicitItems, implicitItems, itemsFrom, firstIn, explicitNext, implicitNext, flagsNext, nextOf, itemsBy, Walked}
+use Rattle.listing.specs.Cursors.{place, explicitItems, implicitItems, itemsFrom, firstIn, explicitNext, implicitNext, flagsNext, nextOf, itemsBy}
 
 -- all items are left at the first place
 pub at-first : (x : Record) → itemsFrom x (place false 0) ≡ itemsOf x
@@ -155,5 +155,6 @@ module _ (x : Record) (c : AccessIter) where
   unfolding nextOf
   at-implicit e z = rw (e, ne-eqb (c .next) 0 z)
 
-  pub walked : {r : Listed} → r ≡ nextOf x c → Walked x c r
-  walked e = record { answer = e; left = walks x c ∙ ap (itemsBy x) (sym e) }
+  -- what the next answer says of the items that were left
+  pub left-by : {r : Listed} → r ≡ nextOf x c → itemsFrom x c ≡ itemsBy x r
+  left-by e = walks x c ∙ ap (itemsBy x) (sym e)

@@ -1,7 +1,6 @@
 -- The walk along a listing. A cursor is a place, held as the given Rust holds it: before the explicit operands, 0 stands at the flags
 -- and i + 1 at entry i of the implicit list; among the explicit operands, i stands at operand i. The record is one after fix-ups.
 use Prim.Native.Nat.{ℕ, _+_, _-_}
-use mathlib.Core.Path.{_≡_}
 use mathlib.Core.Bool.{Bool, true, false, cond}
 use mathlib.Core.List.{List, [], _∷_, _++_}
 use lib.ListN.{take, drop}
@@ -53,8 +52,3 @@ nextOf x c =
 abbrev pub itemsBy : Record → Listed → List Item
 itemsBy x (Found i c) = i ∷ itemsFrom x c
 itemsBy x Finished = []
-
--- a step of the walk
-pub record Walked (x : Record) (c : AccessIter) (r : Listed) : Type 0 where
-  pub answer : r ≡ nextOf x c
-  pub left : itemsFrom x c ≡ itemsBy x r

@@ -14,7 +14,7 @@ ghost use Prim.Native.Nat.{_+_, _<_};
 ghost use Rattle.definition.specs.Listings.{wayAccess, explicitAt};
 ghost use Rattle.definition.specs.declared.Item.the-variants.{Implicit};
 ghost use Rattle.listing.specs.declared.Listed.the-variants.{Found};
-ghost use Rattle.listing.specs.Cursors.{place, explicitNext, implicitNext, flagsNext, Walked};
+ghost use Rattle.listing.specs.Cursors.{place, explicitNext, implicitNext, flagsNext, nextOf};
 
 impl AccessIter {
     pub fn new() -> AccessIter
@@ -28,7 +28,7 @@ impl AccessIter {
 
     // The item at a place and the place behind it. The record is one after fix-ups.
     pub fn next(self, x: Record) -> Listed
-        ensures { λ r. ⌜ Walked x self r ⌝ }
+        ensures { λ r. ⌜ r ≡ nextOf x self ⌝ }
     {
         let at = self.next;
         if self.explicit {

@@ -1,9 +1,12 @@
 -- What the calls answer: which bits of the number hold what. Bits not named are 0.
 use Prim.Native.Nat.{ℕ, _+_, _-_, _*_, _^_}
 use mathlib.Core.List.{List}
+use Rattle.access.specs.Exceptions.{infoNumber, infoVectors}
 use Rattle.access.specs.Privileges.{levelNumber}
 use Rattle.access.specs.declared.InfoAnswer.{InfoAnswer}
+use Rattle.digest.specs.Digests.{digestNumber, digestIn}
 use Rattle.digest.specs.declared.DigestAnswer.{DigestAnswer}
+use Rattle.definition.specs.Behaviors.{privilegeNumber, privilegeIn}
 use Rattle.definition.specs.Visits.{numberOf, opcodeOf, countOf}
 use Rattle.definition.specs.Readings.{readingNumber}
 use Rattle.definition.specs.declared.Answer.{Answer}
@@ -24,15 +27,15 @@ packed o = (answerBits (o .0), o .1)
 
 -- digest: 0-7 number, 8-15 behavior, 16-23 operand_access, 32-47 list
 abbrev pub digestBits : DigestAnswer → ℕ
-digestBits a = a .number + at 8 (a .digest .behavior) + at 16 (a .digest .operands) + at 32 (a .digest .extra)
+digestBits a = digestNumber a + at 8 (digestIn a .behavior) + at 16 (digestIn a .operands) + at 32 (digestIn a .extra)
 
 -- privilege: 0-7 number, 8-15 level
 abbrev pub privilegeBits : PrivilegeAnswer → ℕ
-privilegeBits a = a .number + at 8 (levelNumber (a .level))
+privilegeBits a = privilegeNumber a + at 8 (levelNumber (privilegeIn a))
 
 -- exceptions: 0-7 number, 32-63 exception bits
 abbrev pub exceptionBits : InfoAnswer → ℕ
-exceptionBits a = a .number + at 32 (a .info .vectors)
+exceptionBits a = infoNumber a + at 32 (infoVectors a)
 
 -- event: 0-7 number (255 finished), 32-63 the event's length in bytes
 abbrev pub lengthFrom : ℕ → Reading → ℕ

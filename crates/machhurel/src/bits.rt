@@ -22,26 +22,30 @@ pub fn answer_bits(a: Answer) -> u64
 pub fn digest_bits(a: DigestAnswer) -> u64
     ensures { λ r. ⌜ r ≡ digestBits a ⌝ }
 {
-    let number = a.number as u64;
-    let behavior = a.digest.behavior as u64;
-    let operands = a.digest.operands as u64;
-    let extra = a.digest.extra as u64;
-    number + behavior * 0x100 + operands * 0x1_0000 + extra * 0x1_0000_0000
+    match a {
+        DigestAnswer::Done(d) => {
+            (d.behavior as u64) * 0x100
+                + (d.operands as u64) * 0x1_0000
+                + (d.extra as u64) * 0x1_0000_0000
+        }
+        DigestAnswer::Refused(number) => number as u64,
+    }
 }
 
 pub fn privilege_bits(a: PrivilegeAnswer) -> u64
     ensures { λ r. ⌜ r ≡ privilegeBits a ⌝ }
 {
-    let number = a.number as u64;
-    let level = a.level;
-    let bits = level.to_bits() as u64;
-    number + bits * 0x100
+    match a {
+        PrivilegeAnswer::Done(level) => (level.to_bits() as u64) * 0x100,
+        PrivilegeAnswer::Refused(number) => number as u64,
+    }
 }
 
 pub fn exception_bits(a: InfoAnswer) -> u64
     ensures { λ r. ⌜ r ≡ exceptionBits a ⌝ }
 {
-    let number = a.number as u64;
-    let vectors = a.info.vectors as u64;
-    number + vectors * 0x1_0000_0000
+    match a {
+        InfoAnswer::Done(info) => (info.vectors as u64) * 0x1_0000_0000,
+        InfoAnswer::Refused(number) => number as u64,
+    }
 }

@@ -7,6 +7,7 @@ use mathlib.Core.List.{List, [], _∷_}
 use mathlib.Core.Bool.{Bool, true, false, not}
 use lib.ListN.{length}
 use Rattle.laws.specs.Tests.{firstOf}
+use Rattle.laws.proofs.Outcomes.{one-outcome}
 use Rattle.registers.specs.Files.{fileOf, isFile}
 use Rattle.record.specs.Records.{isRecord, recordOf, outside}
 use Rattle.definition.specs.Behaviors.{complex}
@@ -103,7 +104,14 @@ bounds-reached = (refl, refl, refl, refl, refl)
 
 pub every-call-determined : promised.EveryCallDetermined
 every-call-determined b f p g s =
-    (λ o u h k. h ∙ sym k, λ o u h k. h ∙ sym k, λ o u h k. h ∙ sym k, λ o u h k. h ∙ sym k, λ o u h k. h ∙ sym k, λ o u h k. h ∙ sym k, λ o u h k. h ∙ sym k)
+    (one-outcome _, one-outcome _, one-outcome _, one-outcome _, one-outcome _, one-outcome _, one-outcome _, one-outcome _, one-outcome _)
+
+pub every-reading-determined : promised.EveryReadingDetermined
+every-reading-determined f y l i = (one-outcome _, one-outcome _, one-outcome _)
+
+pub every-setter-determined : promised.EverySetterDetermined
+every-setter-determined d v a w i n t =
+    (one-outcome _, one-outcome _, one-outcome _, one-outcome _, one-outcome _, one-outcome _, one-outcome _, one-outcome _, one-outcome _, one-outcome _, one-outcome _)
 
 pub refused-leaves : promised.RefusedLeaves
 unfolding visitBy listingCall
@@ -132,7 +140,7 @@ beyond-holds =
 
 pub answers-hold : promised.AnswersHold
 answers-hold =
-    (tables.listings-hold, tables.digests-hold, tables.exceptions-hold, tables.privileges-hold, tables.readings-hold, tables.answer-numbers-hold, tables.reading-numbers-hold, tables.level-numbers-hold, tables.files-hold, tables.records-hold, tables.entries-hold, tables.vectors-hold, tables.any-holds, tables.may-holds, tables.setters-hold)
+    (tables.listings-hold, tables.digests-hold, tables.exceptions-hold, tables.privileges-hold, tables.readings-hold, tables.answer-numbers-hold, tables.reading-numbers-hold, tables.digest-numbers-hold, tables.info-numbers-hold, tables.may-numbers-hold, tables.privilege-numbers-hold, tables.level-numbers-hold, tables.files-hold, tables.records-hold, tables.entries-hold, tables.vectors-hold, tables.chains-hold, tables.any-holds, tables.may-holds, tables.setters-hold)
 
 pub sweeps-hold : promised.SweepsHold
 sweeps-hold =

@@ -5,7 +5,7 @@ use Rattle.definition.specs.Readings.{readingNumber}
 use Rattle.promises.specs.Rows.{Visited, Listed, Table}
 use Rattle.promises.specs.Bench.{bench}
 use Rattle.promises.specs.Beyond.{widening, masking, leas, ordering, addressing, malformed, refusing}
-use Rattle.promises.specs.Answers.{listings, digestFor, digests, exceptionsFor, exceptions, privilegeFor, privileges, readingFrom, readings, numbersOf, answer-numbers, reading-numbers, level-numbers, fileFor, files, recordFor, records, entryFor, entries, any-none, any-rows, vectors, vector-rows, may, may-rows, setter, setter-rows}
+use Rattle.promises.specs.Answers.{listings, digestFor, digests, exceptionsFor, exceptions, privilegeFor, privileges, readingFrom, readings, numbersOf, answer-numbers, reading-numbers, digestNumbers, digest-numbers, infoNumbers, info-numbers, mayNumbers, may-numbers, privilegeNumbers, privilege-numbers, level-numbers, fileFor, files, recordFor, records, entryFor, entries, any-none, any-rows, vectors, vector-rows, vectors-after, chain-rows, may, may-rows, setter, setter-rows}
 use Rattle.promises.specs.Sweeps.{every-list, every-spec-read, every-spec-written, fixedBy, every-opcode, namedIn, every-bank, mulOf, every-width, valueIn, every-value, atSize0, every-memory-list}
 use Rattle.promises.proofs.Opened.{opened}
 
@@ -69,6 +69,22 @@ pub reading-numbers-hold : Table readingNumber reading-numbers
 unfolding reading-numbers
 reading-numbers-hold = refl
 
+pub digest-numbers-hold : Table digestNumbers digest-numbers
+unfolding digest-numbers
+digest-numbers-hold = refl
+
+pub info-numbers-hold : Table infoNumbers info-numbers
+unfolding info-numbers
+info-numbers-hold = refl
+
+pub may-numbers-hold : Table mayNumbers may-numbers
+unfolding may-numbers
+may-numbers-hold = refl
+
+pub privilege-numbers-hold : Table privilegeNumbers privilege-numbers
+unfolding privilege-numbers
+privilege-numbers-hold = refl
+
 pub level-numbers-hold : Table levelNumber level-numbers
 unfolding level-numbers
 level-numbers-hold = refl
@@ -92,6 +108,10 @@ any-holds = refl
 pub vectors-hold : Table vectors vector-rows
 unfolding opened vector-rows
 vectors-hold = refl
+
+pub chains-hold : Table vectors-after chain-rows
+unfolding opened chain-rows
+chains-hold = refl
 
 pub may-holds : Table may may-rows
 unfolding opened may-rows

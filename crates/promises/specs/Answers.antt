@@ -2,17 +2,20 @@
 use Prim.Native.Nat.{ℕ, _^_}
 use mathlib.Core.List.{List, [], _∷_}
 use mathlib.Core.Bool.{Bool, true, false}
-use Rattle.access.specs.Exceptions.{infoOf, anyOf, noneOf, setOf, mayOf}
+use Rattle.access.specs.Exceptions.{infoOf, anyOf, noneOf, setOf, thenSet, mayOf, infoNumber, infoVectors, mayNumber, mayValue}
 use Rattle.access.specs.declared.InfoAnswer.{InfoAnswer}
+use Rattle.access.specs.declared.InfoAnswer.the-variants as info
 use Rattle.access.specs.declared.MayAnswer.{MayAnswer}
+use Rattle.access.specs.declared.MayAnswer.the-variants as asked
 use Rattle.access.specs.declared.PrivilegeLevel.{PrivilegeLevel}
 use Rattle.access.specs.declared.PrivilegeLevel.the-variants.{Any, PL0, Special, Reserved}
 use Rattle.registers.specs.Banks as banks
 use Rattle.registers.specs.Files.{fileAnswer}
 use Rattle.registers.specs.declared.FileAnswer.{FileAnswer}
-use Rattle.digest.specs.Digests.{withPrivilege, withFlags, withNontrivial, withComplex, operandAnswer, listAnswer}
+use Rattle.digest.specs.Digests.{withPrivilege, withFlags, withNontrivial, withComplex, operandAnswer, listAnswer, then, digestNumber, digestIn}
 use Rattle.digest.specs.declared.BehaviorDigest.{BehaviorDigest}
 use Rattle.digest.specs.declared.DigestAnswer.{DigestAnswer}
+use Rattle.digest.specs.declared.DigestAnswer.the-variants as answered
 use Rattle.implicit.specs.Lists.{entryAt}
 use Rattle.implicit.specs.declared.Way.the-variants.{Read, Write}
 use Rattle.implicit.specs.declared.ImplicitOperand.the-variants.{Register}
@@ -20,10 +23,11 @@ use Rattle.implicit.specs.declared.Entry.{Entry}
 use Rattle.implicit.specs.declared.Entry.the-variants.{Operand, Slot, End}
 use Rattle.record.specs.Records.{recordOf, recordAnswer}
 use Rattle.record.specs.declared.RecordAnswer.{RecordAnswer}
-use Rattle.definition.specs.Behaviors.{digestCall, privilegeCall, exceptionsCall}
+use Rattle.definition.specs.Behaviors.{digestCall, privilegeCall, exceptionsCall, privilegeNumber, privilegeIn}
 use Rattle.definition.specs.Visits.{numberOf, opcodeOf, countOf}
 use Rattle.definition.specs.Readings.{readAt}
 use Rattle.definition.specs.declared.PrivilegeAnswer.{PrivilegeAnswer}
+use Rattle.definition.specs.declared.PrivilegeAnswer.the-variants as level
 use Rattle.definition.specs.declared.Answer.{Answer}
 use Rattle.definition.specs.declared.Answer.the-variants.{Done, Refused, Complex}
 use Rattle.definition.specs.declared.Event.the-variants.{RegisterRead, RegisterWrite, MemoryRead, MemoryWrite, UnknownRead, UnknownWrite}
@@ -65,7 +69,7 @@ abbrev pub digest : ℕ → ℕ → ℕ → BehaviorDigest
 digest b o e = record { behavior = b; operands = o; extra = e }
 
 abbrev pub fixed : ℕ → ℕ → ℕ → DigestAnswer
-fixed b o e = record { number = 0; digest = digest b o e }
+fixed b o e = answered.Done (digest b o e)
 
 abbrev pub digestFor : List Patch → DigestAnswer
 digestFor cs = digestCall (recordWith (behavior 0x10 ∷ access 0xFF ∷ list 9 ∷ cs))
@@ -118,13 +122,13 @@ digests =
     ∷ ((opcode 23 ∷ prefixes 0x06 ∷ []), fixed 0x10 0xFF 21)
     ∷ ((opcode 21 ∷ prefixes 0x04 ∷ []), fixed 0x10 0xFF 22)
     ∷ ((opcode 22 ∷ prefixes 0x09 ∷ []), fixed 0x10 0xFF 23)
-    -- bits 6 and 7 stay; without bit 4 nothing changes; refused, every other number is 0
+    -- bits 6 and 7 stay; without bit 4 nothing changes
     ∷ ((opcode 13 ∷ count 1 ∷ behavior 0xDF ∷ []), fixed 0xDF 0xFD 9)
     ∷ ((opcode 13 ∷ count 1 ∷ behavior 0xEF ∷ []), fixed 0xEF 0xFF 9)
-    ∷ ((long 41 ∷ []), record { number = 1; digest = digest 0 0 0 })
-    ∷ ((count 5 ∷ []), record { number = 2; digest = digest 0 0 0 })
+    ∷ ((long 41 ∷ []), answered.Refused 1)
+    ∷ ((count 5 ∷ []), answered.Refused 2)
     -- 1 before 2, where both tests refuse
-    ∷ ((count 5 ∷ long 39 ∷ []), record { number = 1; digest = digest 0 0 0 })
+    ∷ ((count 5 ∷ long 39 ∷ []), answered.Refused 1)
     ∷ []
 
 -- Exceptions: bit 13, and bit 14
@@ -132,7 +136,7 @@ abbrev pub exceptionsFor : List Patch → InfoAnswer
 exceptionsFor cs = exceptionsCall (recordWith cs)
 
 abbrev pub raises : ℕ → InfoAnswer
-raises v = record { number = 0; info = infoOf v }
+raises v = info.Done (infoOf v)
 
 unfoldable pub exceptions : List (List Patch × InfoAnswer)
 exceptions =
@@ -153,27 +157,24 @@ exceptions =
     ∷ ((opcode 1 ∷ behavior 0x10 ∷ list 28 ∷ []), raises 0)
     -- both
     ∷ ((behavior 0x01 ∷ list 15 ∷ size 0 ∷ []), raises 0x6000)
-    ∷ ((long 39 ∷ []), record { number = 1; info = infoOf 0 })
-    ∷ ((count 5 ∷ behavior 0x01 ∷ []), record { number = 2; info = infoOf 0 })
-    ∷ ((count 5 ∷ behavior 0x01 ∷ long 39 ∷ []), record { number = 1; info = infoOf 0 })
+    ∷ ((long 39 ∷ []), info.Refused 1)
+    ∷ ((count 5 ∷ behavior 0x01 ∷ []), info.Refused 2)
+    ∷ ((count 5 ∷ behavior 0x01 ∷ long 39 ∷ []), info.Refused 1)
     ∷ []
 
 -- Privilege
 abbrev pub privilegeFor : List Patch → PrivilegeAnswer
 privilegeFor cs = privilegeCall (recordWith cs)
 
-abbrev pub needs : ℕ → PrivilegeLevel → PrivilegeAnswer
-needs n l = record { number = n; level = l }
-
 unfoldable pub privileges : List (List Patch × PrivilegeAnswer)
 privileges =
-    ((behavior 0xFC ∷ []), needs 0 Any)
-    ∷ ((behavior 0xFD ∷ []), needs 0 PL0)
-    ∷ ((behavior 0xFE ∷ []), needs 0 Special)
-    ∷ ((behavior 0xFF ∷ []), needs 0 Reserved)
-    ∷ ((behavior 0x03 ∷ long 39 ∷ []), needs 1 Any)
-    ∷ ((behavior 0x03 ∷ count 5 ∷ []), needs 2 Any)
-    ∷ ((behavior 0x03 ∷ count 5 ∷ long 39 ∷ []), needs 1 Any)
+    ((behavior 0xFC ∷ []), level.Done Any)
+    ∷ ((behavior 0xFD ∷ []), level.Done PL0)
+    ∷ ((behavior 0xFE ∷ []), level.Done Special)
+    ∷ ((behavior 0xFF ∷ []), level.Done Reserved)
+    ∷ ((behavior 0x03 ∷ long 39 ∷ []), level.Refused 1)
+    ∷ ((behavior 0x03 ∷ count 5 ∷ []), level.Refused 2)
+    ∷ ((behavior 0x03 ∷ count 5 ∷ long 39 ∷ []), level.Refused 1)
     ∷ []
 
 -- Reading a log at a place
@@ -217,6 +218,31 @@ answer-numbers = (Done 5, (0, 0, 5)) ∷ (Refused 3, (3, 0, 0)) ∷ (Complex 9, 
 unfoldable pub reading-numbers : List (Reading × ℕ)
 reading-numbers = (Found (UnknownRead 1) 2, 0) ∷ (Bad 1, 1) ∷ (Bad 2, 2) ∷ (Finished, 255) ∷ []
 
+-- the number and the values of each case of the other answers: refused, every other number is 0
+abbrev pub digestNumbers : DigestAnswer → ℕ × BehaviorDigest
+digestNumbers a = (digestNumber a, digestIn a)
+
+unfoldable pub digest-numbers : List (DigestAnswer × (ℕ × BehaviorDigest))
+digest-numbers = (fixed 1 2 3, (0, digest 1 2 3)) ∷ (answered.Refused 2, (2, digest 0 0 0)) ∷ []
+
+abbrev pub infoNumbers : InfoAnswer → ℕ × ℕ
+infoNumbers a = (infoNumber a, infoVectors a)
+
+unfoldable pub info-numbers : List (InfoAnswer × (ℕ × ℕ))
+info-numbers = (info.Done (infoOf 5), (0, 5)) ∷ (info.Refused 2, (2, 0)) ∷ []
+
+abbrev pub mayNumbers : MayAnswer → ℕ × Bool
+mayNumbers a = (mayNumber a, mayValue a)
+
+unfoldable pub may-numbers : List (MayAnswer × (ℕ × Bool))
+may-numbers = (asked.Done true, (0, true)) ∷ (asked.Done false, (0, false)) ∷ (asked.Refused 2, (2, false)) ∷ []
+
+abbrev pub privilegeNumbers : PrivilegeAnswer → ℕ × PrivilegeLevel
+privilegeNumbers a = (privilegeNumber a, privilegeIn a)
+
+unfoldable pub privilege-numbers : List (PrivilegeAnswer × (ℕ × PrivilegeLevel))
+privilege-numbers = (level.Done PL0, (0, PL0)) ∷ (level.Refused 1, (1, Any)) ∷ []
+
 unfoldable pub level-numbers : List (PrivilegeLevel × ℕ)
 level-numbers = (Any, 0) ∷ (PL0, 1) ∷ (Special, 2) ∷ (Reserved, 3) ∷ []
 
@@ -256,7 +282,7 @@ entries =
     ∷ ((29, 0), End)
     ∷ []
 
--- Setters: a vector above 31, an operand above 3 and a list above 28 are refused 2, and every other number is 0
+-- Setters: a vector above 31, an operand above 3 and a list above 28 are refused 2
 abbrev pub vectors : (ℕ × ℕ) × Bool → InfoAnswer
 vectors a = setOf (infoOf (a .0 .0)) (a .0 .1) (a .1)
 
@@ -266,7 +292,18 @@ vector-rows =
     ∷ (((0x4000, 31), true), raises 0x80004000)
     ∷ (((0xFFFFFFFF, 13), false), raises 0xFFFFDFFF)
     ∷ (((0x2000, 13), true), raises 0x2000)
-    ∷ (((0xFFFFFFFF, 32), true), record { number = 2; info = infoOf 0 })
+    ∷ (((0xFFFFFFFF, 32), true), info.Refused 2)
+    ∷ []
+
+-- a vector set after another: the first refusal stands
+abbrev pub vectors-after : InfoAnswer × ℕ → InfoAnswer
+vectors-after a = thenSet (a .0) (a .1) true
+
+unfoldable pub chain-rows : List ((InfoAnswer × ℕ) × InfoAnswer)
+chain-rows =
+    ((raises 0x2000, 14), raises 0x6000)
+    ∷ ((info.Refused 2, 14), info.Refused 2)
+    ∷ ((raises 0x2000, 32), info.Refused 2)
     ∷ []
 
 abbrev pub may : ℕ × ℕ → MayAnswer
@@ -274,10 +311,10 @@ may a = mayOf (infoOf (a .0)) (a .1)
 
 unfoldable pub may-rows : List ((ℕ × ℕ) × MayAnswer)
 may-rows =
-    ((0x80002000, 13), record { number = 0; may = true })
-    ∷ ((0x80002000, 14), record { number = 0; may = false })
-    ∷ ((0x80002000, 31), record { number = 0; may = true })
-    ∷ ((0xFFFFFFFF, 32), record { number = 2; may = false })
+    ((0x80002000, 13), asked.Done true)
+    ∷ ((0x80002000, 14), asked.Done false)
+    ∷ ((0x80002000, 31), asked.Done true)
+    ∷ ((0xFFFFFFFF, 32), asked.Refused 2)
     ∷ []
 
 abbrev pub any-none : ℕ → Bool × Bool
@@ -290,7 +327,7 @@ abbrev pub setter : (BehaviorDigest → DigestAnswer) → DigestAnswer
 setter f = f (digest 0xA5 0x5A 9)
 
 abbrev pub as-answer : (BehaviorDigest → BehaviorDigest) → BehaviorDigest → DigestAnswer
-as-answer f d = record { number = 0; digest = f d }
+as-answer f d = answered.Done (f d)
 
 unfoldable pub setter-rows : List ((BehaviorDigest → DigestAnswer) × DigestAnswer)
 setter-rows =
@@ -301,7 +338,10 @@ setter-rows =
     ∷ (as-answer (withComplex false), fixed 0x85 0x5A 9)
     ∷ (operandAnswer 0 1, fixed 0xA5 0x59 9)
     ∷ (operandAnswer 3 3, fixed 0xA5 0xDA 9)
-    ∷ (operandAnswer 4 0, record { number = 2; digest = digest 0 0 0 })
+    ∷ (operandAnswer 4 0, answered.Refused 2)
     ∷ (listAnswer 28, fixed 0xA5 0x5A 28)
-    ∷ (listAnswer 29, record { number = 2; digest = digest 0 0 0 })
+    ∷ (listAnswer 29, answered.Refused 2)
+    -- in a chain the first refusal stands
+    ∷ ((λ d. then (operandAnswer 0 1 d) (listAnswer 28)), fixed 0xA5 0x59 28)
+    ∷ ((λ d. then (operandAnswer 4 1 d) (listAnswer 28)), answered.Refused 2)
     ∷ []

@@ -53,7 +53,3 @@ Addressable (UnknownWrite n) = Unit {0}
 -- what stands for a program that visits: of a record, a file, a buffer and a start it gives an answer and a buffer
 abbrev pub Program : Type 0
 Program = List ℕ → List ℕ → List ℕ → ℕ → Answer × List ℕ
-
--- any two outcomes that a contract `o ≡ x` allows are equal
-abbrev pub OneOutcome : {A : Type 0} → A → Type 0
-OneOutcome {A} x = (o u : A) → o ≡ x → u ≡ x → o ≡ u

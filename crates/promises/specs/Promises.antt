@@ -4,14 +4,23 @@ use Prim.Native.Nat.{ℕ, _+_, _≤_}
 use mathlib.Core.Path.{_≡_}
 use mathlib.Core.List.{List, [], _++_, List·Memᴰ}
 use mathlib.Core.Logic.{_↔_}
-use mathlib.Core.Bool.{true, not}
+use mathlib.Core.Bool.{Bool, true, not}
 use lib.ListN.{length, take, drop, set}
 use Rattle.laws.specs.Lending.{splice}
+use Rattle.laws.specs.Outcomes.{OneOutcome}
+use Rattle.access.specs.Exceptions.{setOf, thenSet, mayOf}
 use Rattle.access.specs.Privileges.{levelNumber}
-use Rattle.registers.specs.Files.{fileOf, isFile, valueOf}
+use Rattle.access.specs.declared.ExceptionInfo.{ExceptionInfo}
+use Rattle.access.specs.declared.InfoAnswer.{InfoAnswer}
+use Rattle.registers.specs.Files.{fileOf, fileAnswer, isFile, slotOf, valueOf}
 use Rattle.registers.specs.declared.RegSpec.{RegSpec}
 use Rattle.registers.specs.declared.RegisterFile.{RegisterFile}
 use Rattle.registers.specs.declared.Value.the-variants.{Unknown}
+use Rattle.digest.specs.Digests.{withPrivilege, withFlags, withNontrivial, withComplex, operandAnswer, listAnswer, then}
+use Rattle.digest.specs.declared.BehaviorDigest.{BehaviorDigest}
+use Rattle.digest.specs.declared.DigestAnswer.{DigestAnswer}
+use Rattle.implicit.specs.Lists.{entryAt}
+use Rattle.record.specs.Records.{recordAnswer}
 use Rattle.record.specs.declared.Record.{Record}
 use Rattle.definition.specs.Addresses.{registersOf, addressOf}
 use Rattle.definition.specs.Behaviors.{digestCall, privilegeCall, exceptionsCall}
@@ -26,11 +35,11 @@ use Rattle.definition.specs.declared.Answer.the-variants.{Done, Refused}
 use Rattle.definition.specs.declared.Event.{Event}
 use Rattle.definition.specs.declared.Reading.the-variants.{Found}
 use Rattle.promises.specs.Refinement.{Extends, AgreeOn}
-use Rattle.promises.specs.Calls.{Refusal, Alike, Written, ReadsFrom, Addressable, Program, OneOutcome}
+use Rattle.promises.specs.Calls.{Refusal, Alike, Written, ReadsFrom, Addressable, Program}
 use Rattle.promises.specs.Rows.{recordWith, fileKnowing, buffer, Visited, Listed, Table}
 use Rattle.promises.specs.Bench.{P1, P2, P2-file, bench}
 use Rattle.promises.specs.Beyond.{widening, masking, leas, ordering, addressing, malformed, refusing}
-use Rattle.promises.specs.Answers.{listings, digestFor, digests, exceptionsFor, exceptions, privilegeFor, privileges, readingFrom, readings, numbersOf, answer-numbers, reading-numbers, level-numbers, fileFor, files, recordFor, records, entryFor, entries, any-none, any-rows, vectors, vector-rows, may, may-rows, setter, setter-rows}
+use Rattle.promises.specs.Answers.{listings, digestFor, digests, exceptionsFor, exceptions, privilegeFor, privileges, readingFrom, readings, numbersOf, answer-numbers, reading-numbers, digestNumbers, digest-numbers, infoNumbers, info-numbers, mayNumbers, may-numbers, privilegeNumbers, privilege-numbers, level-numbers, fileFor, files, recordFor, records, entryFor, entries, any-none, any-rows, vectors, vector-rows, vectors-after, chain-rows, may, may-rows, setter, setter-rows}
 use Rattle.promises.specs.Sweeps.{every-list, every-spec-read, every-spec-written, fixedBy, every-opcode, namedIn, every-bank, mulOf, every-width, valueIn, every-value, atSize0, every-memory-list}
 use Rattle.promises.specs.Fullest.{fullest, fullest-file}
 
@@ -96,7 +105,7 @@ BoundsReached =
     × (visitOf fullest fullest-file (buffer 176) 0 ≡ (Refused 7, buffer 176))
     × (listingCall fullest (buffer 33) 0 ≡ (Refused 7, buffer 33))
 
--- ONE OUTCOME. Any two outcomes that a call's contract allows are equal: answer, count and every byte lent.
+-- ONE OUTCOME. Any two outcomes that a call's contract allows are equal: answer, count and every byte lent. The calls over bytes:
 abbrev pub EveryCallDetermined : Type 0
 EveryCallDetermined =
     (b f p : List ℕ) (g : RegisterFile) (s : ℕ)
@@ -107,6 +116,30 @@ EveryCallDetermined =
     × OneOutcome (privilegeCall b)
     × OneOutcome (exceptionsCall b)
     × OneOutcome (readAt p s)
+    × OneOutcome (recordAnswer b)
+    × OneOutcome (fileAnswer f)
+
+-- what a file answers of a register, and a list of an entry
+abbrev pub EveryReadingDetermined : Type 0
+EveryReadingDetermined =
+    (f : RegisterFile) (y : RegSpec) (l i : ℕ)
+    → OneOutcome (valueOf f y) × OneOutcome (slotOf f i) × OneOutcome (entryAt l i)
+
+-- and the setters, alone and in a chain
+abbrev pub EverySetterDetermined : Type 0
+EverySetterDetermined =
+    (d : BehaviorDigest) (v : ExceptionInfo) (a : DigestAnswer) (w : InfoAnswer) (i n : ℕ) (t : Bool)
+    → OneOutcome (withPrivilege n d)
+    × OneOutcome (withFlags n d)
+    × OneOutcome (withNontrivial t d)
+    × OneOutcome (withComplex t d)
+    × OneOutcome (operandAnswer i n d)
+    × OneOutcome (listAnswer n d)
+    × OneOutcome (then a (operandAnswer i n))
+    × OneOutcome (then a (listAnswer n))
+    × OneOutcome (setOf v i t)
+    × OneOutcome (thenSet w i t)
+    × OneOutcome (mayOf v i)
 
 -- THE REFUSAL TABLE. An answer's number is that of the first test of the table that holds, and 0 where none does.
 abbrev pub FirstRefusal : Type 0
@@ -162,11 +195,16 @@ AnswersHold =
     × Table readingFrom readings
     × Table numbersOf answer-numbers
     × Table readingNumber reading-numbers
+    × Table digestNumbers digest-numbers
+    × Table infoNumbers info-numbers
+    × Table mayNumbers may-numbers
+    × Table privilegeNumbers privilege-numbers
     × Table levelNumber level-numbers
     × Table fileFor files
     × Table recordFor records
     × Table entryFor entries
     × Table vectors vector-rows
+    × Table vectors-after chain-rows
     × Table any-none any-rows
     × Table may may-rows
     × Table setter setter-rows

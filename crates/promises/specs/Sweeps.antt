@@ -2,6 +2,8 @@
 use Prim.Native.Nat.{ℕ, suc}
 use mathlib.Core.List.{List, [], _∷_, map}
 use lib.ListN.{length}
+use Rattle.access.specs.Exceptions.{infoVectors}
+use Rattle.digest.specs.Digests.{digestIn}
 use Rattle.registers.specs.Banks as banks
 use Rattle.registers.specs.Files.{fileOf, valueOf}
 use Rattle.registers.specs.declared.Value.{Value}
@@ -126,7 +128,7 @@ every-spec-written =
 abbrev pub fixedBy : ℕ → ℕ × ℕ
 fixedBy o =
     let a = digestFor (opcode o ∷ specs (RegMMM ∷ 1 ∷ 1 ∷ []) ∷ regs 1 D 0 ∷ access 0xAA ∷ list 27 ∷ []) in
-    (a .digest .operands, a .digest .extra)
+    (digestIn a .operands, digestIn a .extra)
 
 unfoldable pub every-opcode : List (ℕ × (ℕ × ℕ))
 every-opcode =
@@ -151,7 +153,7 @@ every-bank =
 
 -- The widths of banks, as MUL asks for them: the list that it takes by bank of regs[1]
 abbrev pub mulOf : ℕ → ℕ
-mulOf b = digestFor (opcode 1 ∷ specs (RegMMM ∷ []) ∷ regs 1 b 0 ∷ size 0 ∷ []) .digest .extra
+mulOf b = digestIn (digestFor (opcode 1 ∷ specs (RegMMM ∷ []) ∷ regs 1 b 0 ∷ size 0 ∷ [])) .extra
 
 unfoldable pub every-width : List (ℕ × ℕ)
 every-width =
@@ -191,7 +193,7 @@ every-value =
 abbrev pub atSize0 : ℕ → ℕ × ℕ
 atSize0 l =
     let cs = put 4 (Deref-rsi ∷ Deref-edi ∷ []) ∷ list l ∷ size 0 ∷ [] in
-    (numberOf (visitOf (recordWith cs) (fileKnowing []) (buffer 40) 0 .0), exceptionsFor cs .info .vectors)
+    (numberOf (visitOf (recordWith cs) (fileKnowing []) (buffer 40) 0 .0), infoVectors (exceptionsFor cs))
 
 unfoldable pub every-memory-list : List (ℕ × (ℕ × ℕ))
 every-memory-list =

@@ -48,9 +48,13 @@ outside x =
     ∷ ltb 28 (x .digest .extra)
     ∷ [])
 
--- the refusal that the bytes of a record alone give, 0 for none
+-- the tests that every call makes first, of the bytes of a record alone
+abbrev pub recordTests : List ℕ → List (Bool × ℕ)
+recordTests b = (not (isRecord b), 1) ∷ (outside (recordOf b), 2) ∷ []
+
+-- the refusal that they give, 0 for none
 unfoldable pub recordRefusal : List ℕ → ℕ
-recordRefusal b = firstOf ((not (isRecord b), 1) ∷ (outside (recordOf b), 2) ∷ [])
+recordRefusal b = firstOf (recordTests b)
 
 -- a record whose numbers are all 0
 unfoldable pub noRecord : Record

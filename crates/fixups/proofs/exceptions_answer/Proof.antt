@@ -1,9 +1,9 @@
 -- `exceptions_answer` meets its contract: the exceptions of the record that was read, or the refusal. Assumes nothing.
 use borrow.Author.Needs.{needs}
-use Prim.Native.Nat.{ℕ}
 use denote.Ref.{now}
 use Rattle.access.specs.Exceptions.{infoOf}
 use Rattle.access.specs.declared.InfoAnswer.{InfoAnswer}
+use Rattle.access.specs.declared.InfoAnswer.the-variants.{Done, Refused}
 use Rattle.record.specs.declared.Record.{Record}
 use Rattle.definition.specs.Behaviors.{exceptionsOf, fixedUp, exceptionsCall}
 use Rattle.fixups.proofs.Answers.{when-refused, when-read}
@@ -11,23 +11,16 @@ use Rattle.fixups.proofs.exceptions_answer.Statement.{statement}
 use Rattle.fixups.proofs.exceptions_answer.Tie as tie
 
 abbrev read : Record → InfoAnswer
-read x = record { number = 0; info = infoOf (exceptionsOf (fixedUp x)) }
-
-abbrev refused : ℕ → InfoAnswer
-refused n = record { number = n; info = infoOf 0 }
+read x = Done (infoOf (exceptionsOf (fixedUp x)))
 
 from-bytes-requires : tie.Need-from-bytes-requires
 from-bytes-requires c κs = search needs
 
-empty-requires : tie.Need-empty-requires
-empty-requires c κs = search needs
-
 returns : tie.Need-returns
 unfolding exceptionsCall
 returns c =
-    let s = c .before .before .before in
-    rw (c .empty .ensures)
-    (when-refused (now (s .before .before .args .b)) (s .from-bytes .result) (s .from-bytes .ensures) read refused (c .before .if1 .taken))
+    let s = c .before .before in
+    when-refused (now (s .before .before .args .b)) (s .from-bytes .result) (s .from-bytes .ensures) read Refused (c .if1 .taken)
 
 fixed-up-requires : tie.Need-fixed-up-requires
 fixed-up-requires c κs = search needs
@@ -40,14 +33,13 @@ unfolding exceptionsCall
 returns-2 c =
     let s = c .before .before .before .before in
     rw (c .exceptions-of .ensures, c .before .fixed-up .ensures)
-    (when-read (now (s .before .before .args .b)) (s .from-bytes .result) (s .from-bytes .ensures) read refused (c .before .before .if1 .left))
+    (when-read (now (s .before .before .args .b)) (s .from-bytes .result) (s .from-bytes .ensures) read Refused (c .before .before .if1 .left))
 
 pub exceptions-answer-spec : {M : Type 1} → statement M
 exceptions-answer-spec =
     tie.close
     (tie.spec
     from-bytes-requires
-    empty-requires
     returns
     fixed-up-requires
     exceptions-of-requires

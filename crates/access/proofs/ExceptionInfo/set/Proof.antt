@@ -9,13 +9,10 @@ use Rattle.access.proofs.ExceptionInfo.set.Tie as tie
 cast-k : tie.Need-cast-k
 cast-k c = search needs
 
-empty-requires : tie.Need-empty-requires
-empty-requires c κs = search needs
-
 returns : tie.Need-returns
 returns c =
-    let a = c .before .before .before .args in
-    rw (c .empty .ensures) (sym (set-refused (a .self) (a .e .vector) (a .b) (omega arith)))
+    let a = c .before .before .args in
+    sym (set-refused (a .self) (a .e .vector) (a .b) (omega arith))
 
 with-bit-requires : tie.Need-with-bit-requires
 with-bit-requires c κs = search needs
@@ -26,4 +23,4 @@ returns-2 c =
     rw (c .with-bit .ensures) (sym (set-taken (a .self) (a .e .vector) (a .b) (omega arith)))
 
 pub set-spec : {M : Type 1} → statement M
-set-spec = tie.close (tie.spec cast-k empty-requires returns with-bit-requires returns-2)
+set-spec = tie.close (tie.spec cast-k returns with-bit-requires returns-2)

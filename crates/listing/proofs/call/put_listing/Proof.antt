@@ -1,5 +1,5 @@
 use Rattle.laws.proofs.OneByOne.{begins, one-more, no-more}
-use Rattle.listing.proofs.Walking.{at-first}
+use Rattle.listing.proofs.Walking.{at-first, left-by}
 use Rattle.listing.specs.Cursors.{itemsFrom, itemsBy}
 use Rattle.definition.specs.Listings.{itemsOf, itemBytes}
 use Rattle.laws.proofs.Lending.{Going, next, inside, fits, ends, keeps}
@@ -36,14 +36,18 @@ same-length : tie.Need-same-length Inv-loop μ-loop
 same-length c = keeps (c .before .before .before .loop .inv)
 
 returns : tie.Need-returns Inv-loop μ-loop
-returns c = no-more (c .before .before .next .ensures .left ∙ ap (itemsBy (c .before .before .before .before .before .before .args .x)) (c .enum-told .given .1)) (c .before .before .before .loop .inv)
+returns c =
+    let x = c .before .before .before .before .before .before .args .x in
+    no-more (left-by x (c .before .before .before .loop .c) (c .before .before .next .ensures) ∙ ap (itemsBy x) (c .enum-told .given .1)) (c .before .before .before .loop .inv)
 
 -- an item that is left, and what is written when it comes
 here :
     (c : tie.After-known-told Inv-loop μ-loop)
     → itemsFrom (c .before .before .before .before .before .before .before .args .x) (c .before .before .before .before .loop .c)
     ≡ c .before .r .given .0 .0 ∷ itemsFrom (c .before .before .before .before .before .before .before .args .x) (c .before .r .given .0 .1 .0)
-here c = c .before .before .before .next .ensures .left ∙ ap (itemsBy (c .before .before .before .before .before .before .before .args .x)) (c .before .r .given .1)
+here c =
+    let x = c .before .before .before .before .before .before .before .args .x in
+    left-by x (c .before .before .before .before .loop .c) (c .before .before .before .next .ensures) ∙ ap (itemsBy x) (c .before .r .given .1)
 
 going :
     (c : tie.After-known-told Inv-loop μ-loop) → let s = c .before .before .before .before .before .before .before .args in let l = c .before .before .before .before .loop in

@@ -1,5 +1,4 @@
 use Rattle.definition.specs.Listings.{explicitAt}
-use Rattle.access.proofs.Laws.{access-back}
 use borrow.Author.Needs.{needs}
 use Rattle.listing.proofs.cursor.explicit_item.Statement.{statement}
 use Rattle.listing.proofs.cursor.explicit_item.Tie as tie
@@ -12,7 +11,7 @@ operand-access-requires c κs = search needs
 
 returns : tie.Need-returns
 unfolding explicitAt
-returns c = rw (← access-back (c .operand-access .result), c .operand-access .ensures, c .before .spec .ensures)
+returns c = rw (c .operand-access .ensures, c .before .spec .ensures)
 
 pub explicit-item-spec : {M : Type 1} → statement M
 explicit-item-spec = tie.close (tie.spec spec-requires operand-access-requires returns)

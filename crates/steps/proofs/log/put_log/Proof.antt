@@ -1,4 +1,5 @@
 use borrow.Author.Needs.{needs}
+use Rattle.digest.proofs.Laws.{flags-number}
 use Prim.Native.Nat.{_+_, _≤_}
 use mathlib.Core.List.{List, [], _∷_}
 use denote.Ref.{now}
@@ -43,11 +44,11 @@ all s = flat (implicits s ∷ read s ∷ written s ∷ explicits s ∷ [])
 -- what is asked of the record
 read-is :
     (c : tie.After-is-write) → c .before .is-read .result ≡ reading (flagsAccess (c .before .before .before .before .before .args .x .digest))
-read-is c = c .before .is-read .ensures ∙ ap reading (c .before .before .flags-access .ensures)
+read-is c = c .before .is-read .ensures ∙ ap reading (flags-number (c .before .before .before .before .before .args .x .digest) (c .before .before .flags-access .ensures))
 
 write-is :
     (c : tie.After-is-write) → c .is-write .result ≡ writing (flagsAccess (c .before .before .before .before .before .args .x .digest))
-write-is c = c .is-write .ensures ∙ ap writing (c .before .before .flags-access .ensures)
+write-is c = c .is-write .ensures ∙ ap writing (flags-number (c .before .before .before .before .before .args .x .digest) (c .before .before .flags-access .ensures))
 
 room : (s : tie.Start) → size (stepBytes (file s)) (all s) ≤ length (now (s .args .log))
 room s = rw (steps-split (s .args .x)) at (s .pre)

@@ -1,4 +1,5 @@
 use borrow.Author.Needs.{needs}
+use Rattle.digest.proofs.Laws.{operand-number}
 use mathlib.Core.Path.{_≡_, sym, ap, _∙_}
 use mathlib.Core.Bool.{false}
 use mathlib.Core.List.{List}
@@ -29,10 +30,10 @@ steps s = operandSteps (s .args .x) (operand s)
 
 -- what is asked of the record
 read-is : (c : tie.After-is-write) → c .before .is-read .result ≡ reading (operand (c .before .before .before .before .before) .access)
-read-is c = c .before .is-read .ensures ∙ ap reading (c .before .before .operand-access .ensures)
+read-is c = c .before .is-read .ensures ∙ ap reading (operand-number (c .before .before .before .before .before .args .x .digest) (c .before .before .before .before .before .args .i) (c .before .before .operand-access .ensures))
 
 write-is : (c : tie.After-is-write) → c .is-write .result ≡ writing (operand (c .before .before .before .before .before) .access)
-write-is c = c .is-write .ensures ∙ ap writing (c .before .before .operand-access .ensures)
+write-is c = c .is-write .ensures ∙ ap writing (operand-number (c .before .before .before .before .before .args .x .digest) (c .before .before .before .before .before .args .i) (c .before .before .operand-access .ensures))
 
 shape-is : (c : tie.After-shape-of) → c .shape-of .result ≡ operand (c .before .before .before .before .before .before .before) .shape
 shape-is c = c .shape-of .ensures ∙ ap shapeOf (c .before .spec .ensures)
