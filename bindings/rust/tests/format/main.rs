@@ -1,6 +1,7 @@
-//! docs/FORMAT.md, run: its tables of banks, specs, fix-ups and implicit lists, and its worked instruction.
+//! docs/FORMAT.md, run: its tables of fields, banks, specs, fix-ups, lists and events, and its worked instruction.
 mod banks;
 mod document;
+mod fields;
 mod fix_ups;
 mod lists;
 mod names;
