@@ -5,7 +5,8 @@
  * anything, and calls may run on any thread at once as long as no two write the same buffer. A pointer may be NULL where its length is 0.
  * Otherwise it points to that many bytes, and a buffer that is written overlaps no other argument.
  *
- * Records are 40 bytes of kind 0x10, register files 141 bytes of kind 0x20; numbers are little-endian.
+ * Records are 40 bytes of kind 0x10, register files 141 bytes of kind 0x20; numbers are little-endian. docs/FORMAT.md has every
+ * field, table and rule.
  *
  *   record   0 kind 0x10; 1-2 opcode; 3 operand count; 4-7 specs; 8-15 four registers (bank, number); 16 memory size; 17 scale;
  *            18-25 displacement; 26-33 immediate; 34 prefix bits; 35 mask register; 36 behavior; 37 operand access; 38-39 list
