@@ -15,7 +15,7 @@ impl<const N: usize> Digits<N> {
 }
 
 /// A number in decimal.
-pub type Decimal = Digits<20>;
+pub(crate) type Decimal = Digits<20>;
 
 impl Decimal {
     pub(crate) fn of(mut n: u64) -> Decimal {
@@ -34,7 +34,7 @@ impl Decimal {
 }
 
 /// A number in sixteen hexadecimal digits.
-pub type Hex = Digits<16>;
+pub(crate) type Hex = Digits<16>;
 
 impl Hex {
     pub(crate) fn of(mut n: u64) -> Hex {
