@@ -35,28 +35,34 @@ impl Event {
     }
 }
 
-/// The event in words: `read rbx`, `write [0x0000000000001008] 8 bytes`, `write [unknown] 8 bytes`.
-impl fmt::Display for Event {
-    fn fmt(&self, f: &mut fmt::Formatter<'_>) -> fmt::Result {
-        f.write_str(if self.is_write() { "write " } else { "read " })?;
+impl Event {
+    /// Writes the event in words: `read rbx`, `write [0x0000000000001008] 8 bytes`, `write [unknown] 8 bytes`.
+    pub fn say<W: fmt::Write>(&self, out: &mut W) -> fmt::Result {
+        out.write_str(if self.is_write() { "write " } else { "read " })?;
         match self {
-            Event::RegisterRead(register) | Event::RegisterWrite(register) => register.fmt(f),
+            Event::RegisterRead(register) | Event::RegisterWrite(register) => register.say(out),
             Event::MemoryRead { address, size } | Event::MemoryWrite { address, size } => {
-                say_place(f, *address)?;
-                f.write_str(Decimal::of(u64::from(*size)).as_str())?;
-                f.write_str(if *size == 1 { " byte" } else { " bytes" })
+                say_place(out, *address)?;
+                out.write_str(Decimal::of(u64::from(*size)).as_str())?;
+                out.write_str(if *size == 1 { " byte" } else { " bytes" })
             }
         }
     }
 }
 
-fn say_place(f: &mut fmt::Formatter<'_>, address: Option<u64>) -> fmt::Result {
+impl fmt::Display for Event {
+    fn fmt(&self, f: &mut fmt::Formatter<'_>) -> fmt::Result {
+        self.say(f)
+    }
+}
+
+fn say_place<W: fmt::Write>(out: &mut W, address: Option<u64>) -> fmt::Result {
     match address {
-        None => f.write_str("[unknown] "),
+        None => out.write_str("[unknown] "),
         Some(address) => {
-            f.write_str("[0x")?;
-            f.write_str(Hex::of(address).as_str())?;
-            f.write_str("] ")
+            out.write_str("[0x")?;
+            out.write_str(Hex::of(address).as_str())?;
+            out.write_str("] ")
         }
     }
 }

@@ -82,22 +82,24 @@ impl Register {
             None => false,
         }
     }
+
+    /// Writes the register's name; the bank and the number where there is no such register.
+    pub fn say<W: fmt::Write>(&self, out: &mut W) -> fmt::Result {
+        match BANKS.get(usize::from(self.bank)) {
+            Some((_, Own(names))) if usize::from(self.number) < names.len() => {
+                out.write_str(names[usize::from(self.number)])
+            }
+            Some((_, Stem(stem, count))) if self.number < *count => {
+                out.write_str(stem)?;
+                out.write_str(Decimal::of(u64::from(self.number)).as_str())
+            }
+            _ => write!(out, "bank {} number {}", self.bank, self.number),
+        }
+    }
 }
 
-/// The register's name; the bank and the number where there is no such register.
 impl fmt::Display for Register {
     fn fmt(&self, f: &mut fmt::Formatter<'_>) -> fmt::Result {
-        match BANKS.get(usize::from(self.bank)) {
-            Some((_, Own(names))) => match names.get(usize::from(self.number)) {
-                Some(name) => return f.write_str(name),
-                None => {}
-            },
-            Some((_, Stem(stem, count))) if self.number < *count => {
-                f.write_str(stem)?;
-                return f.write_str(Decimal::of(u64::from(self.number)).as_str());
-            }
-            _ => {}
-        }
-        write!(f, "bank {} number {}", self.bank, self.number)
+        self.say(f)
     }
 }

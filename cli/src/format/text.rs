@@ -1,6 +1,17 @@
 //! Lines for people: `12  0x401136  write [0x0000000000001008] 8 bytes`.
 use super::{put, Format};
 use crate::line::{Place, What};
+use std::fmt;
+
+/// Words behind bytes, without the detour of a formatter: most of a long trace's text is written here.
+struct Words<'a>(&'a mut Vec<u8>);
+
+impl fmt::Write for Words<'_> {
+    fn write_str(&mut self, words: &str) -> fmt::Result {
+        self.0.extend_from_slice(words.as_bytes());
+        Ok(())
+    }
+}
 
 pub(super) struct Text {
     /// Whether each line names its trace.
@@ -20,7 +31,11 @@ impl Format for Text {
 
     fn what(&self, out: &mut Vec<u8>, what: &What) {
         match what {
-            What::Event(event) => put!(out, "{event}\n"),
+            What::Event(event) => {
+                // bytes in memory take any words
+                let _ = event.say(&mut Words(out));
+                out.push(b'\n');
+            }
             What::Nothing => put!(out, "touches nothing\n"),
             What::Refused(refused) => put!(out, "{refused}\n"),
             What::BadFile(refusal) => {
