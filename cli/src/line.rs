@@ -18,7 +18,7 @@ pub(crate) enum What {
     /// The record touches nothing.
     Nothing,
     Refused(RefusedRecord),
-    /// A register file is refused, and the one before it stays.
+    /// A register file is refused, and not used.
     BadFile(Refusal),
 }
 

@@ -13,7 +13,7 @@ use std::io::Read;
 pub(crate) enum Step<'a> {
     /// A good register file.
     File,
-    /// A register file that is refused: the one before it stays.
+    /// A register file that is refused: it is not used.
     BadFile(Refusal),
     /// A record with its opcode, and its log or why it was refused.
     Record {
@@ -105,8 +105,7 @@ impl Walk {
             }
             Some(item) if item.class == Class::File => {
                 if let Err(refusal) = check_file(item.bytes) {
-                    let words =
-                        format!("damaged: register file {refusal}; the one before it stays");
+                    let words = format!("damaged: register file {refusal}; not used");
                     let at = item.at;
                     self.say(at, &words);
                     return Some(Step::BadFile(refusal));

@@ -39,7 +39,7 @@ impl Format for Text {
             What::Nothing => put!(out, "touches nothing\n"),
             What::Refused(refused) => put!(out, "{refused}\n"),
             What::BadFile(refusal) => {
-                put!(out, "register file {refusal}; the one before it stays\n")
+                put!(out, "register file {refusal}; not used\n")
             }
         }
     }
