@@ -19,7 +19,8 @@ fn escaped(text: &str) -> String {
 fn paragraphs(text: &str) -> String {
     let mut page = String::new();
     let mut kept = false;
-    for line in text.lines() {
+    // an end without a line makes the last kept lines end too
+    for line in text.lines().chain([""]) {
         let keep = line.starts_with("  ");
         match (kept, keep) {
             (false, true) => page.push_str(".nf\n"),

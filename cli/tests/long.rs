@@ -51,8 +51,8 @@ fn a_million_records() {
     for row in [
         "trace,records,1000000,1000000",
         "records by refusal,0: not refused,1000000,1000000",
-        "events,\"register, read\",2000000,2000000",
-        "events,\"memory, write\",1000000,1000000",
+        "events,register read,2000000,2000000",
+        "events,memory write at a known address,1000000,1000000",
         "memory writes by size,8,1000000,1000000",
         "addresses written most,0x0000000000000000,1000,1000",
         "addresses written most,0x0000000000000048,1000,1000",

@@ -20,7 +20,8 @@ pub(crate) const COMMAND: Command = Command {
     details: "\
 Counts over a trace: records by refusal; events by kind; registers read and written by bank; memory read and written by size;
 and the ten addresses at which most writes began. Each count is exact. Where writes began at more addresses than memory is set
-aside for, those of the addresses are given as at least and at most, and the line says so.
+aside for, those of the addresses are given as at least and at most: no other address was written more often than the last
+line's at most.
 ",
     choices: &[FORMAT],
     run,

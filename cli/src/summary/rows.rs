@@ -50,13 +50,13 @@ fn rows(walk: &Walk, counts: &Counts) -> Vec<Row> {
             rows.push(row("records by refusal", key, *count));
         }
     }
-    for (key, both) in [
-        ("register", counts.registers),
-        ("memory", counts.memory),
-        ("memory at an unknown address", counts.unknown),
+    for (of, place, both) in [
+        ("register", "", counts.registers),
+        ("memory", " at a known address", counts.memory),
+        ("memory", " at an unknown address", counts.unknown),
     ] {
-        rows.push(row("events", format!("{key}, read"), both.reads));
-        rows.push(row("events", format!("{key}, write"), both.writes));
+        rows.push(row("events", format!("{of} read{place}"), both.reads));
+        rows.push(row("events", format!("{of} write{place}"), both.writes));
     }
     let bank = |(number, both): (usize, &Both)| {
         let name = u8::try_from(number).ok().and_then(bank_name).unwrap_or("");
