@@ -121,23 +121,21 @@ fn show(
         place: Vec::new(),
     };
     while walk.records() < asked.records.to {
-        if !walk.is_ready() {
+        if walk.has_complaint() || !walk.is_ready() {
             output.flush()?;
+            walk.complain();
         }
         let rip = walk.rip();
-        let (records, step) = (walk.records(), walk.step());
-        let step = match step {
+        let record = walk.records();
+        let step = match walk.step() {
             None => break,
             Some(step) => step,
         };
-        if !asked.records.has(records) || matches!(step, Step::File) {
+        if !asked.records.has(record) || matches!(step, Step::File) {
             continue;
         }
-        lines.set_place(&Place {
-            trace: &name,
-            record: records,
-            rip,
-        });
+        let trace = &name;
+        lines.set_place(&Place { trace, record, rip });
         lines.put_step(output, &step);
         output.flush_much()?;
     }

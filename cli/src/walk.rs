@@ -31,6 +31,8 @@ pub(crate) struct Walk {
     log: [u8; LOG_BYTES],
     records: u64,
     status: Status,
+    /// What is wrong and has not been said yet.
+    unsaid: Option<String>,
 }
 
 impl Walk {
@@ -58,6 +60,7 @@ impl Walk {
                     log: [0; LOG_BYTES],
                     records: 0,
                     status: Status::Done,
+                    unsaid: None,
                 })
             }
         }
@@ -88,13 +91,13 @@ impl Walk {
         self.reader.is_ready()
     }
 
-    /// The next step; none at the end of the trace, or where it is damaged, which is said.
+    /// The next step; none at the end of the trace, or where it is damaged. What is wrong waits for `complain`.
     pub(crate) fn step(&mut self) -> Option<Step<'_>> {
         self.progress.tell(self.reader.at(), self.records);
         let item = match self.reader.next_item() {
             Ok(item) => item,
             Err(error) => {
-                self.say(self.reader.at(), &words(&error));
+                self.damage(self.reader.at(), &words(&error));
                 return None;
             }
         };
@@ -107,7 +110,7 @@ impl Walk {
                 if let Err(refusal) = check_file(item.bytes) {
                     let words = format!("damaged: register file {refusal}; not used");
                     let at = item.at;
-                    self.say(at, &words);
+                    self.damage(at, &words);
                     return Some(Step::BadFile(refusal));
                 }
                 self.file.clear();
@@ -126,27 +129,36 @@ impl Walk {
         }
     }
 
-    /// Whether all was read and well.
+    /// Whether something is wrong that has not been said: what came before it should be written first.
+    pub(crate) fn has_complaint(&self) -> bool {
+        self.unsaid.is_some()
+    }
+
+    /// Says what is wrong.
+    pub(crate) fn complain(&mut self) {
+        if let Some(words) = self.unsaid.take() {
+            self.progress.clear();
+            complain(format_args!("{}: {words}", self.name));
+        }
+    }
+
+    /// Whether all was read and well, once all is said.
     pub(crate) fn status(&mut self) -> Status {
+        self.complain();
         self.progress.clear();
         self.status
     }
 
     fn end(&mut self) {
-        self.progress.clear();
         if self.records == 0 {
-            complain(format_args!("{}: there is no record in it", self.name));
+            self.unsaid = Some("there is no record in it".to_string());
         }
     }
 
-    /// Says what is wrong at a place.
-    fn say(&mut self, at: u64, words: &str) {
-        self.progress.clear();
+    /// What is wrong at a place.
+    fn damage(&mut self, at: u64, words: &str) {
         self.status = Status::Failed;
-        complain(format_args!(
-            "{}: byte {at}, record {}: {words}",
-            self.name, self.records
-        ));
+        self.unsaid = Some(format!("byte {at}, record {}: {words}", self.records));
     }
 }
 

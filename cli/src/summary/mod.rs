@@ -40,6 +40,7 @@ fn run(arguments: &Arguments, output: &mut Output) -> Result<Status, Instead> {
                 let mut counts = Counts::new();
                 while let Some(step) = walk.step() {
                     counts.add(&step);
+                    walk.complain();
                 }
                 let ended = walk.status();
                 status = status.max(ended);
