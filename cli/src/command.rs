@@ -34,10 +34,13 @@ pub fn run(words: Vec<OsString>) -> Status {
         Some(word) => word,
     };
     if asks_help(&word) || word == "help" {
-        return say(&match words.next().and_then(|name| found(&name)) {
-            Some(command) => help::of(command),
-            None => help::all(),
-        });
+        return match words.next() {
+            None => say(&help::all()),
+            Some(name) => match found(&name) {
+                Some(command) => say(&help::of(command)),
+                None => wrong(&unknown(&name), "machhurel"),
+            },
+        };
     }
     if word == "--version" || word == "-V" {
         return say(&format!("machhurel {VERSION}\n"));

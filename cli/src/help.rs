@@ -1,22 +1,35 @@
 //! Help, from the table of commands.
 use crate::choice::Choice;
 use crate::command::{Command, COMMANDS};
+use machhurel::{Class, KINDS};
 
 /// What the command is for, in a line.
 pub const PURPOSE: &str =
     "says which registers and which memory the instructions of a trace touched";
 
-/// How a trace is named, and how the command ends: for every command alike.
-pub const COMMON: &str = "\
-A trace has register files (kind 0x20, 141 bytes) and records (kind 0x10, 40 bytes), one after another. A record stands
-under the last good register file before it. Records are counted from 0.
+/// What a trace is, how it is named, and how the command ends: for every command alike.
+pub fn common() -> String {
+    let (files, records) = (kinds(Class::File), kinds(Class::Record));
+    format!(
+        "\
+A trace has register files ({files}) and records ({records}), one after another. A record stands under the last
+good register file before it. Records are counted from 0.
 
 - is standard input. Without a trace a pipe is read; without a pipe the sample is taken, and standard error says so.
 
 Exit status: 0 all was read; 1 a trace could not be opened, is damaged or cut, or output could not be written; 2 wrong usage.
 Errors go to standard error, with the trace's name, the byte and the number of the record at that place. A refused record is
 a line of the output like any other, and no error.
-";
+"
+    )
+}
+
+/// The kinds of items of a class: `0x10, 40 bytes`.
+fn kinds(class: Class) -> String {
+    let of = KINDS.iter().filter(|(_, each, _)| *each == class);
+    let words = of.map(|(kind, _, bytes)| format!("0x{kind:02x}, {bytes} bytes"));
+    words.collect::<Vec<_>>().join("; ")
+}
 
 /// The options that the command has whatever is asked.
 pub const GENERAL: [(&str, &str); 2] = [
@@ -36,7 +49,7 @@ pub fn all() -> String {
         text.push_str(&row(name, words));
     }
     text.push('\n');
-    text.push_str(COMMON);
+    text.push_str(&common());
     text
 }
 
@@ -51,7 +64,7 @@ pub fn of(command: &Command) -> String {
     }
     text.push_str(&row("-h, --help", "this help"));
     text.push('\n');
-    text.push_str(COMMON);
+    text.push_str(&common());
     text
 }
 

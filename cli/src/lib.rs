@@ -29,6 +29,7 @@ mod name;
 mod nearest;
 mod number;
 mod output;
+pub mod pages;
 mod progress;
 mod show;
 mod source;

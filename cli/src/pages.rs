@@ -1,9 +1,6 @@
-//! pages man|bash: the man page, and the completion of bash, from the table of commands. tools/package calls it.
-#![forbid(unsafe_code)]
-use machhurel_cli::command::{Command, COMMANDS};
-use machhurel_cli::{help, VERSION};
-use std::io::{self, Write};
-use std::process::ExitCode;
+//! The man page, and the completion of bash, from the table of commands.
+use crate::command::{Command, COMMANDS};
+use crate::{help, VERSION};
 
 /// A text in a man page: its backslashes, its dashes, and its dots and quotes at the start of a line, taken as they are.
 fn escaped(text: &str) -> String {
@@ -53,7 +50,8 @@ fn section(command: &Command) -> String {
     page
 }
 
-fn man() -> String {
+/// The man page.
+pub fn man() -> String {
     let mut page = format!(".TH MACHHUREL 1 \"\" \"machhurel {VERSION}\" \"Machhurel\"\n");
     page.push_str(".SH NAME\nmachhurel \\- ");
     page.push_str(&escaped(help::PURPOSE));
@@ -63,7 +61,7 @@ fn man() -> String {
         page.push_str(&format!(".B {}.br\n", escaped(&line)));
     }
     page.push_str(".SH DESCRIPTION\n");
-    page.push_str(&paragraphs(help::COMMON));
+    page.push_str(&paragraphs(&help::common()));
     page.push_str(".SH COMMANDS\n");
     page.extend(COMMANDS.map(section));
     page.push_str(".SH OPTIONS\n");
@@ -76,7 +74,8 @@ fn man() -> String {
     page
 }
 
-fn bash() -> String {
+/// The completion of bash.
+pub fn bash() -> String {
     let names: Vec<&str> = COMMANDS.iter().map(|command| command.name).collect();
     let mut script =
         String::from("# completion of the command machhurel for bash\n_machhurel() {\n");
@@ -108,16 +107,4 @@ fn bash() -> String {
     );
     script.push_str("complete -o default -F _machhurel machhurel\n");
     script
-}
-
-fn main() -> ExitCode {
-    let page = match std::env::args().nth(1).as_deref() {
-        Some("man") => man(),
-        Some("bash") => bash(),
-        _ => return ExitCode::from(2),
-    };
-    match io::stdout().write_all(page.as_bytes()) {
-        Ok(()) => ExitCode::SUCCESS,
-        Err(_) => ExitCode::FAILURE,
-    }
 }

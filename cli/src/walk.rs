@@ -30,7 +30,7 @@ pub(crate) struct Walk {
     file: Vec<u8>,
     log: [u8; LOG_BYTES],
     records: u64,
-    status: Status,
+    damages: u64,
     /// What is wrong and has not been said yet.
     unsaid: Option<String>,
 }
@@ -59,7 +59,7 @@ impl Walk {
                     file: Vec::with_capacity(FILE_BYTES),
                     log: [0; LOG_BYTES],
                     records: 0,
-                    status: Status::Done,
+                    damages: 0,
                     unsaid: None,
                 })
             }
@@ -79,6 +79,11 @@ impl Walk {
     /// How many records were read.
     pub(crate) fn records(&self) -> u64 {
         self.records
+    }
+
+    /// How many places of it are damaged, the one at which it was not read further among them.
+    pub(crate) fn damages(&self) -> u64 {
+        self.damages
     }
 
     /// The register file's rip, where it is known.
@@ -146,7 +151,10 @@ impl Walk {
     pub(crate) fn status(&mut self) -> Status {
         self.complain();
         self.progress.clear();
-        self.status
+        match self.damages {
+            0 => Status::Done,
+            _ => Status::Failed,
+        }
     }
 
     fn end(&mut self) {
@@ -157,7 +165,7 @@ impl Walk {
 
     /// What is wrong at a place.
     fn damage(&mut self, at: u64, words: &str) {
-        self.status = Status::Failed;
+        self.damages = self.damages.saturating_add(1);
         self.unsaid = Some(format!("byte {at}, record {}: {words}", self.records));
     }
 }

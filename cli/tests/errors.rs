@@ -30,6 +30,10 @@ fn wrong_usage_is_2() {
         "there is no command --verison: is --version meant?",
     );
     wrong(&["qqqqqqq"], "there is no command qqqqqqq (");
+    wrong(
+        &["help", "shwo"],
+        "there is no command shwo: is show meant?",
+    );
     wrong(&[""], "there is no command  (");
     wrong(
         &[TORN],

@@ -1,6 +1,6 @@
 //! A trace of a million records, in less memory than it has bytes.
 mod common;
-use common::{command, folder, Ran, COMMAND};
+use common::{folder, Ran, COMMAND};
 use machhurel::*;
 use std::fs::File;
 use std::io::{BufWriter, Write};
@@ -120,9 +120,7 @@ fn more_addresses_than_are_counted_at_once() {
             .unwrap();
     }
     drop(out);
-    let ran: Ran = command(&["summary"])
-        .arg(&path)
-        .stdin(Stdio::null())
+    let ran: Ran = in_little_memory(&["summary"], &path)
         .output()
         .unwrap()
         .into();

@@ -32,7 +32,7 @@ extern crate std;
 
 mod access;
 mod calls;
-mod digits;
+pub mod digits;
 mod event;
 pub mod ffi;
 mod file;

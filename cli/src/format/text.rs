@@ -1,6 +1,7 @@
 //! Lines for people: `12  0x401136  write [0x0000000000001008] 8 bytes`.
 use super::{put, Format};
 use crate::line::{Place, What};
+use machhurel::digits::{Decimal, Hex};
 use std::fmt;
 
 /// Words behind bytes, without the detour of a formatter: most of a long trace's text is written here.
@@ -21,11 +22,17 @@ pub(super) struct Text {
 impl Format for Text {
     fn place(&self, out: &mut Vec<u8>, place: &Place<'_>) {
         if self.several {
-            put!(out, "{}  ", place.trace);
+            out.extend_from_slice(place.trace.as_bytes());
+            out.extend_from_slice(b"  ");
         }
+        out.extend_from_slice(Decimal::of(place.record).as_bytes());
         match place.rip {
-            Some(rip) => put!(out, "{}  {rip:#x}  ", place.record),
-            None => put!(out, "{}  -  ", place.record),
+            Some(rip) => {
+                out.extend_from_slice(b"  0x");
+                out.extend_from_slice(Hex::short(rip).as_bytes());
+                out.extend_from_slice(b"  ");
+            }
+            None => out.extend_from_slice(b"  -  "),
         }
     }
 

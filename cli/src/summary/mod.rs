@@ -42,9 +42,8 @@ fn run(arguments: &Arguments, output: &mut Output) -> Result<Status, Instead> {
                     counts.add(&step);
                     walk.complain();
                 }
-                let ended = walk.status();
-                status = status.max(ended);
-                rows::put(output, kind, &walk, &counts, ended);
+                status = status.max(walk.status());
+                rows::put(output, kind, &walk, &counts);
                 let result = output.flush();
                 if result.is_err() {
                     return Ok(written(result, status));

@@ -2,7 +2,6 @@
 use super::counts::{Both, Counts};
 use crate::format::{csv_quoted, json_quoted, put, Kind};
 use crate::output::Output;
-use crate::status::Status;
 use crate::walk::Walk;
 use machhurel::bank_name;
 
@@ -36,6 +35,7 @@ fn both(rows: &mut Vec<Row>, reads: &'static str, writes: &'static str, counts: 
 fn rows(walk: &Walk, counts: &Counts) -> Vec<Row> {
     let mut rows = vec![
         row("trace", "bytes read", walk.at()),
+        row("trace", "places damaged or cut", walk.damages()),
         row("trace", "register files", counts.files),
         row("trace", "register files refused", counts.bad_files),
         row("trace", "records", walk.records()),
@@ -97,19 +97,11 @@ pub(super) fn header(kind: Kind) -> &'static str {
     }
 }
 
-pub(super) fn put(output: &mut Output, kind: Kind, walk: &Walk, counts: &Counts, ended: Status) {
+pub(super) fn put(output: &mut Output, kind: Kind, walk: &Walk, counts: &Counts) {
     let rows = rows(walk, counts);
     let (out, name) = (&mut output.bytes, walk.name());
     match kind {
-        Kind::Text => {
-            put_text(out, name, &rows);
-            if ended != Status::Done {
-                put!(
-                    out,
-                    "  not whole: standard error says what is wrong with the trace\n"
-                );
-            }
-        }
+        Kind::Text => put_text(out, name, &rows),
         Kind::Csv => {
             let name = csv_quoted(name);
             for row in &rows {
