@@ -31,6 +31,12 @@
 #include <stddef.h>
 #include <stdint.h>
 
+#include "machhurel_build.h"
+#include "machhurel_format.h"
+
+/* The version of this library; tools/version keeps it the same everywhere. */
+#define MACHHUREL_VERSION "0.1.0"
+
 #ifdef __cplusplus
 extern "C" {
 #endif
@@ -40,26 +46,23 @@ extern "C" {
 #define MACHHUREL_LOG_EVENTS 38
 #define MACHHUREL_LISTING_BYTES 34
 
-#define MACHHUREL_RECORD_BYTES 40
-#define MACHHUREL_FILE_BYTES 141
-
 /* Every answer: the refusal number, 0 for none (for machhurel_event also MACHHUREL_FINISHED). */
-#define MACHHUREL_NUMBER(answer) ((unsigned)((answer) & 0xFF))
+#define MACHHUREL_NUMBER(answer) MACHHUREL_CAST(unsigned, ((answer) & 0xFF))
 
 /* machhurel_visit, machhurel_listing: the bytes written, and after refusal 4 the opcode. */
-#define MACHHUREL_COUNT(answer) ((uint32_t)((answer) >> 32))
-#define MACHHUREL_OPCODE(answer) ((uint16_t)(((answer) >> 8) & 0xFFFF))
+#define MACHHUREL_COUNT(answer) MACHHUREL_CAST(uint32_t, ((answer) >> 32))
+#define MACHHUREL_OPCODE(answer) MACHHUREL_CAST(uint16_t, (((answer) >> 8) & 0xFFFF))
 
 /* machhurel_digest: the digest after fix-ups. */
-#define MACHHUREL_BEHAVIOR(answer) ((uint8_t)(((answer) >> 8) & 0xFF))
-#define MACHHUREL_OPERAND_ACCESS(answer) ((uint8_t)(((answer) >> 16) & 0xFF))
-#define MACHHUREL_LIST(answer) ((uint16_t)(((answer) >> 32) & 0xFFFF))
+#define MACHHUREL_BEHAVIOR(answer) MACHHUREL_CAST(uint8_t, (((answer) >> 8) & 0xFF))
+#define MACHHUREL_OPERAND_ACCESS(answer) MACHHUREL_CAST(uint8_t, (((answer) >> 16) & 0xFF))
+#define MACHHUREL_LIST(answer) MACHHUREL_CAST(uint16_t, (((answer) >> 32) & 0xFFFF))
 
 /* machhurel_privilege: 0 any level, 1 CPL 0 only, 2 special, 3 reserved. */
-#define MACHHUREL_LEVEL(answer) ((unsigned)(((answer) >> 8) & 0xFF))
+#define MACHHUREL_LEVEL(answer) MACHHUREL_CAST(unsigned, (((answer) >> 8) & 0xFF))
 
 /* machhurel_exceptions: bit 13 for #GP, bit 14 for #PF. */
-#define MACHHUREL_EXCEPTIONS(answer) ((uint32_t)((answer) >> 32))
+#define MACHHUREL_EXCEPTIONS(answer) MACHHUREL_CAST(uint32_t, ((answer) >> 32))
 
 /* machhurel_event: there is no event at or past the log's end. */
 #define MACHHUREL_FINISHED 255
