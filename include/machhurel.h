@@ -5,7 +5,8 @@
  * anything, and calls may run on any thread at once as long as no two write the same buffer. A pointer may be NULL where its length is 0.
  * Otherwise it points to that many bytes, and a buffer that is written overlaps no other argument.
  *
- * Records are 40 bytes of kind 0x10, register files 141 bytes of kind 0x20; numbers are little-endian.
+ * Records are 40 bytes of kind 0x10, register files 141 bytes of kind 0x20; numbers are little-endian. docs/FORMAT.md has every
+ * field, table and rule.
  *
  *   record   0 kind 0x10; 1-2 opcode; 3 operand count; 4-7 specs; 8-15 four registers (bank, number); 16 memory size; 17 scale;
  *            18-25 displacement; 26-33 immediate; 34 prefix bits; 35 mask register; 36 behavior; 37 operand access; 38-39 list
@@ -30,6 +31,12 @@
 #include <stddef.h>
 #include <stdint.h>
 
+#include "machhurel_build.h"
+#include "machhurel_format.h"
+
+/* The version of this library; tools/version keeps it the same everywhere. */
+#define MACHHUREL_VERSION "0.1.0"
+
 #ifdef __cplusplus
 extern "C" {
 #endif
@@ -39,26 +46,23 @@ extern "C" {
 #define MACHHUREL_LOG_EVENTS 38
 #define MACHHUREL_LISTING_BYTES 34
 
-#define MACHHUREL_RECORD_BYTES 40
-#define MACHHUREL_FILE_BYTES 141
-
 /* Every answer: the refusal number, 0 for none (for machhurel_event also MACHHUREL_FINISHED). */
-#define MACHHUREL_NUMBER(answer) ((unsigned)((answer) & 0xFF))
+#define MACHHUREL_NUMBER(answer) MACHHUREL_CAST(unsigned, ((answer) & 0xFF))
 
 /* machhurel_visit, machhurel_listing: the bytes written, and after refusal 4 the opcode. */
-#define MACHHUREL_COUNT(answer) ((uint32_t)((answer) >> 32))
-#define MACHHUREL_OPCODE(answer) ((uint16_t)(((answer) >> 8) & 0xFFFF))
+#define MACHHUREL_COUNT(answer) MACHHUREL_CAST(uint32_t, ((answer) >> 32))
+#define MACHHUREL_OPCODE(answer) MACHHUREL_CAST(uint16_t, (((answer) >> 8) & 0xFFFF))
 
 /* machhurel_digest: the digest after fix-ups. */
-#define MACHHUREL_BEHAVIOR(answer) ((uint8_t)(((answer) >> 8) & 0xFF))
-#define MACHHUREL_OPERAND_ACCESS(answer) ((uint8_t)(((answer) >> 16) & 0xFF))
-#define MACHHUREL_LIST(answer) ((uint16_t)(((answer) >> 32) & 0xFFFF))
+#define MACHHUREL_BEHAVIOR(answer) MACHHUREL_CAST(uint8_t, (((answer) >> 8) & 0xFF))
+#define MACHHUREL_OPERAND_ACCESS(answer) MACHHUREL_CAST(uint8_t, (((answer) >> 16) & 0xFF))
+#define MACHHUREL_LIST(answer) MACHHUREL_CAST(uint16_t, (((answer) >> 32) & 0xFFFF))
 
 /* machhurel_privilege: 0 any level, 1 CPL 0 only, 2 special, 3 reserved. */
-#define MACHHUREL_LEVEL(answer) ((unsigned)(((answer) >> 8) & 0xFF))
+#define MACHHUREL_LEVEL(answer) MACHHUREL_CAST(unsigned, (((answer) >> 8) & 0xFF))
 
 /* machhurel_exceptions: bit 13 for #GP, bit 14 for #PF. */
-#define MACHHUREL_EXCEPTIONS(answer) ((uint32_t)((answer) >> 32))
+#define MACHHUREL_EXCEPTIONS(answer) MACHHUREL_CAST(uint32_t, ((answer) >> 32))
 
 /* machhurel_event: there is no event at or past the log's end. */
 #define MACHHUREL_FINISHED 255

@@ -3,35 +3,25 @@
  * says where and how much. Build it with the library that tools/native-lib writes:
  *
  *     cc -std=c11 -I include examples/c/torn.c -L target/native -lmachhurel -o torn
+ *
+ * or with an installed package:
+ *
+ *     cc -std=c11 torn.c $(pkg-config --cflags --libs machhurel) -o torn
  */
 #include <inttypes.h>
 #include <stdio.h>
-#include <string.h>
 
 #include "machhurel.h"
 
-/* mov [rbx + disp], register: specs Disp and RegRRR, write and read */
+/* mov [rbx + disp], rax, or its low half */
 static void store(uint8_t record[MACHHUREL_RECORD_BYTES], uint8_t size, uint8_t disp)
 {
-    memset(record, 0, MACHHUREL_RECORD_BYTES);
-    record[0] = 0x10;
-    record[1] = 100;
-    record[3] = 2;
-    record[4] = 24;
-    record[5] = 1;
-    record[8] = size == 8 ? 0 : 1;
-    record[11] = 3;
-    record[16] = size;
-    record[18] = disp;
-    record[37] = 0x06;
-}
-
-static uint64_t number(const uint8_t *bytes)
-{
-    uint64_t value = 0;
-    for (int i = 7; i >= 0; i--)
-        value = value << 8 | bytes[i];
-    return value;
+    machhurel_record_begin(record, 40);
+    machhurel_record_operand(record, MACHHUREL_SPEC_DISP, MACHHUREL_ACCESS_WRITE);
+    machhurel_record_operand(record, MACHHUREL_SPEC_REG_RRR, MACHHUREL_ACCESS_READ);
+    machhurel_record_register(record, 0, size == 8 ? MACHHUREL_BANK_Q : MACHHUREL_BANK_D, MACHHUREL_RAX);
+    machhurel_record_register(record, 1, MACHHUREL_BANK_Q, MACHHUREL_RBX);
+    machhurel_record_memory(record, size, 0, disp);
 }
 
 /* prints the memory writes of a log, event by event */
@@ -41,16 +31,17 @@ static void print_writes(const uint8_t *log, size_t n)
         uint64_t event = machhurel_event(log, n, at);
         if (MACHHUREL_NUMBER(event) != 0)
             return;
-        if (log[at] == 4)
-            printf("write [0x%016" PRIX64 "] %u bytes\n", number(log + at + 1), (unsigned)log[at + 9]);
+        if (log[at] == MACHHUREL_EVENT_MEMORY_WRITE)
+            printf("write [0x%016" PRIx64 "] %d bytes\n", machhurel_get_number(log + at + 1), log[at + 9]);
         at += MACHHUREL_COUNT(event);
     }
 }
 
 int main(void)
 {
-    uint8_t file[MACHHUREL_FILE_BYTES] = {0x20, 1 << 3};
-    file[5 + 3 * 8 + 1] = 0x10;
+    uint8_t file[MACHHUREL_FILE_BYTES];
+    machhurel_file_begin(file);
+    machhurel_file_know(file, MACHHUREL_RBX, 0x1000);
     const uint8_t stores[3][2] = {{4, 8}, {4, 12}, {8, 8}};
     for (int i = 0; i < 3; i++) {
         uint8_t record[MACHHUREL_RECORD_BYTES];

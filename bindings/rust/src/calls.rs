@@ -132,9 +132,7 @@ impl Exceptions {
 
     /// Whether the vector may be raised; no vector above 31 may.
     pub fn may(self, vector: u8) -> bool {
-        self.0
-            .checked_shr(u32::from(vector))
-            .is_some_and(|bits| bits & 1 == 1)
+        matches!(self.0.checked_shr(u32::from(vector)), Some(bits) if bits & 1 == 1)
     }
 }
 

@@ -1,15 +1,9 @@
 //! The events of a log.
+use crate::digits::{Decimal, Hex};
 use crate::ffi;
 use crate::refusal::Refusal;
-
-/// A register, by its bank and its number there.
-#[derive(Clone, Copy, Debug, PartialEq, Eq, Hash)]
-pub struct Register {
-    /// 0 Q, 1 D, 2 W, 3 rB, 4 B, 5 X, 6 Y, 7 Z, 8 K, 9 RIP, 10 EIP, 11 RFLAGS, 12 other.
-    pub bank: u8,
-    /// The number in the bank.
-    pub number: u8,
-}
+use crate::register::Register;
+use core::fmt;
 
 /// What an instruction did, one access at a time.
 #[derive(Clone, Copy, Debug, PartialEq, Eq, Hash)]
@@ -34,11 +28,50 @@ pub enum Event {
     },
 }
 
+impl Event {
+    /// Whether something was written.
+    pub const fn is_write(self) -> bool {
+        matches!(self, Event::RegisterWrite(_) | Event::MemoryWrite { .. })
+    }
+}
+
+impl Event {
+    /// Writes the event in words: `read rbx`, `write [0x0000000000001008] 8 bytes`, `write [unknown] 8 bytes`.
+    pub fn say<W: fmt::Write>(&self, out: &mut W) -> fmt::Result {
+        out.write_str(if self.is_write() { "write " } else { "read " })?;
+        match self {
+            Event::RegisterRead(register) | Event::RegisterWrite(register) => register.say(out),
+            Event::MemoryRead { address, size } | Event::MemoryWrite { address, size } => {
+                say_place(out, *address)?;
+                out.write_str(Decimal::of(u64::from(*size)).as_str())?;
+                out.write_str(if *size == 1 { " byte" } else { " bytes" })
+            }
+        }
+    }
+}
+
+impl fmt::Display for Event {
+    fn fmt(&self, f: &mut fmt::Formatter<'_>) -> fmt::Result {
+        self.say(f)
+    }
+}
+
+fn say_place<W: fmt::Write>(out: &mut W, address: Option<u64>) -> fmt::Result {
+    match address {
+        None => out.write_str("[unknown] "),
+        Some(address) => {
+            out.write_str("[0x")?;
+            out.write_str(Hex::of(address).as_str())?;
+            out.write_str("] ")
+        }
+    }
+}
+
 /// Walks the events of a log from its start. It ends after the last event, or after the first refusal.
 ///
 /// ```
 /// use machhurel::{Event, Events, Refusal, Register};
-/// let rbx = Register { bank: 0, number: 3 };
+/// let rbx = Register::quad(3);
 /// let mut events = Events::new(&[1, 0, 3, 9]);
 /// assert_eq!(events.next(), Some(Ok(Event::RegisterRead(rbx))));
 /// assert_eq!(events.next(), Some(Err(Refusal::Form)));
@@ -64,32 +97,34 @@ impl<'a> Events<'a> {
 
 const FINISHED: u64 = 255;
 
+/// The event that these bytes begin with.
 fn event_of(bytes: &[u8]) -> Option<Event> {
+    let byte = |k: usize| bytes.get(k).copied();
     let register = || {
         Some(Register {
-            bank: *bytes.get(1)?,
-            number: *bytes.get(2)?,
+            bank: byte(1)?,
+            number: byte(2)?,
         })
     };
     let address = || Some(u64::from_le_bytes(bytes.get(1..9)?.try_into().ok()?));
-    Some(match *bytes.first()? {
+    Some(match byte(0)? {
         1 => Event::RegisterRead(register()?),
         2 => Event::RegisterWrite(register()?),
         3 => Event::MemoryRead {
             address: Some(address()?),
-            size: *bytes.get(9)?,
+            size: byte(9)?,
         },
         4 => Event::MemoryWrite {
             address: Some(address()?),
-            size: *bytes.get(9)?,
+            size: byte(9)?,
         },
         5 => Event::MemoryRead {
             address: None,
-            size: *bytes.get(1)?,
+            size: byte(1)?,
         },
         6 => Event::MemoryWrite {
             address: None,
-            size: *bytes.get(1)?,
+            size: byte(1)?,
         },
         _ => return None,
     })
@@ -104,14 +139,17 @@ impl Iterator for Events<'_> {
         if answer & 0xFF == FINISHED {
             return None;
         }
-        let begun = self.at;
-        if let Some(refusal) = Refusal::of(answer) {
-            self.at = self.log.len();
-            return Some(Err(refusal));
-        }
-        self.at += (answer >> 32) as usize;
-        event_of(&self.log[begun..self.at]).map(Ok)
+        let found = match Refusal::of(answer) {
+            Some(refusal) => Err(refusal),
+            // an event that the library reads and this crate does not know is refused, never passed over
+            None => event_of(self.log.get(self.at..).unwrap_or(&[])).ok_or(Refusal::Form),
+        };
+        self.at = match found {
+            Ok(_) => self.at.saturating_add((answer >> 32) as usize),
+            Err(_) => self.log.len(),
+        };
+        Some(found)
     }
 }
 
-impl std::iter::FusedIterator for Events<'_> {}
+impl core::iter::FusedIterator for Events<'_> {}

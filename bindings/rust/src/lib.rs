@@ -1,44 +1,66 @@
 //! Which registers and which memory an x86-64 instruction touched, in order.
 //!
-//! A safe wrapper of the proved library `machhurel`. Any bytes at any length get an answer; nothing panics on input.
+//! A safe wrapper of the proved library `machhurel`. Any bytes at any length get an answer; nothing panics on input. The library is
+//! linked from target/native of the repository, or from the folder that the variable `MACHHUREL_LIB_DIR` names. The core needs no
+//! standard library: the feature `std`, on by default, adds the trace reader. Rust 1.63 is enough.
 //!
 //! ```
-//! use machhurel::{visit, Event, Events, FILE_BYTES, LOG_BYTES, RECORD_BYTES};
+//! use machhurel::*;
 //!
-//! // an 8-byte store to [rbx + 8]: spec 24 (Disp), access write, base rbx, size 8, displacement 8
-//! let mut record = [0u8; RECORD_BYTES];
-//! record[0] = 0x10;
-//! record[1] = 40;
-//! record[3] = 1;
-//! record[4] = 24;
-//! record[11] = 3;
-//! record[16] = 8;
-//! record[18] = 8;
-//! record[37] = 0x02;
-//! // a register file that knows rbx alone
-//! let mut file = [0u8; FILE_BYTES];
-//! file[0] = 0x20;
-//! file[1] = 1 << 3;
-//! file[5 + 3 * 8 + 1] = 0x10;
+//! // mov [rbx + 8], rax
+//! let record = Record::builder(40)
+//!     .operand(Spec::Disp, Access::Write)
+//!     .operand(Spec::RegRRR, Access::Read)
+//!     .rrr(Register::quad(0))
+//!     .base(Register::quad(3))
+//!     .memory_size(8)
+//!     .displacement(8)
+//!     .build()?;
+//! let file = RegisterFile::new().with(Known::Rbx, 0x1000);
 //!
 //! let mut log = [0u8; LOG_BYTES];
 //! let n = visit(&record, &file, &mut log, 0)?;
 //! let events: Result<Vec<Event>, _> = Events::new(&log[..n]).collect();
-//! assert_eq!(events?[1], Event::MemoryWrite { address: Some(0x1008), size: 8 });
-//! # Ok::<(), machhurel::Refusal>(())
+//! assert_eq!(events?[1].to_string(), "write [0x0000000000001008] 8 bytes");
+//! # Ok::<(), Refusal>(())
 //! ```
+#![no_std]
 #![warn(missing_docs)]
 
+#[cfg(feature = "std")]
+extern crate std;
+
+mod access;
 mod calls;
+pub mod digits;
 mod event;
 pub mod ffi;
+mod file;
+mod item;
+mod listing;
+mod opcode;
+#[cfg(feature = "std")]
+mod reader;
+mod record;
 mod refusal;
+mod register;
+mod spec;
 
+pub use access::Access;
 pub use calls::{
     digest, exceptions, listing, privilege, visit, Digest, Exceptions, PrivilegeLevel,
 };
-pub use event::{Event, Events, Register};
-pub use refusal::Refusal;
+pub use event::{Event, Events};
+pub use file::{check_file, known, Known, RegisterFile};
+pub use item::{Broken, Class, Item, Items, KINDS};
+pub use listing::{Listed, Listing, Operand};
+pub use opcode::opcode_name;
+#[cfg(feature = "std")]
+pub use reader::{TraceError, TraceReader};
+pub use record::{Record, RecordBuilder};
+pub use refusal::{Refusal, RefusedRecord};
+pub use register::{bank_name, Register, BANK_COUNT};
+pub use spec::Spec;
 
 /// The bytes of a record.
 pub const RECORD_BYTES: usize = 40;

@@ -1,6 +1,6 @@
 //! Why a call was refused.
-use std::error::Error;
-use std::fmt;
+use crate::opcode::opcode_name;
+use core::fmt;
 
 /// Why a call was refused. A refused call changes no byte of a buffer.
 #[derive(Clone, Copy, Debug, PartialEq, Eq, Hash)]
@@ -25,17 +25,30 @@ pub enum Refusal {
 }
 
 impl Refusal {
-    /// The refusal's number.
-    pub fn number(self) -> u8 {
+    /// The highest number of a refusal.
+    pub const MOST: u8 = 7;
+
+    /// The refusal's number, and its reason in words.
+    const fn row(self) -> (u8, &'static str) {
         match self {
-            Refusal::Form => 1,
-            Refusal::Field => 2,
-            Refusal::File => 3,
-            Refusal::Complex { .. } => 4,
-            Refusal::Operand => 5,
-            Refusal::Size => 6,
-            Refusal::Room => 7,
+            Refusal::Form => (1, "wrong length or unknown kind"),
+            Refusal::Field => (2, "a field is outside its table"),
+            Refusal::File => (3, "no well-formed register file"),
+            Refusal::Complex { .. } => (4, "complex: its accesses are no plain list"),
+            Refusal::Operand => (5, "an accessed operand names no register or memory"),
+            Refusal::Size => (6, "memory is accessed and its size is 0"),
+            Refusal::Room => (7, "too little room behind the start"),
         }
+    }
+
+    /// The refusal's number.
+    pub const fn number(self) -> u8 {
+        self.row().0
+    }
+
+    /// The reason, in words.
+    pub const fn reason(self) -> &'static str {
+        self.row().1
     }
 
     /// The refusal in an answer's bits, or none. The library answers no number above 7.
@@ -53,21 +66,65 @@ impl Refusal {
             _ => Refusal::Room,
         })
     }
-}
 
-impl fmt::Display for Refusal {
-    fn fmt(&self, f: &mut fmt::Formatter<'_>) -> fmt::Result {
-        write!(f, "refused {}: ", self.number())?;
+    /// The opcode that the answer carried.
+    pub const fn opcode(self) -> Option<u16> {
         match self {
-            Refusal::Form => write!(f, "wrong length or unknown kind"),
-            Refusal::Field => write!(f, "a field is outside its table"),
-            Refusal::File => write!(f, "the register file is not well formed"),
-            Refusal::Complex { opcode } => write!(f, "complex instruction, opcode {opcode}"),
-            Refusal::Operand => write!(f, "an accessed operand names nothing"),
-            Refusal::Size => write!(f, "memory is accessed with size 0"),
-            Refusal::Room => write!(f, "too little room behind the start"),
+            Refusal::Complex { opcode } => Some(opcode),
+            _ => None,
+        }
+    }
+
+    /// The refusal of a record whose opcode is this: in words, with the opcode's name where it has one.
+    ///
+    /// ```
+    /// let refusal = machhurel::Refusal::Size;
+    /// assert_eq!(refusal.of_opcode(28).to_string(), "refused 6 (opcode 28, LEA): memory is accessed and its size is 0");
+    /// assert_eq!(refusal.of_opcode(40).to_string(), "refused 6: memory is accessed and its size is 0");
+    /// ```
+    pub fn of_opcode(self, opcode: u16) -> RefusedRecord {
+        RefusedRecord {
+            refusal: self,
+            opcode,
         }
     }
 }
 
-impl Error for Refusal {}
+impl fmt::Display for Refusal {
+    fn fmt(&self, f: &mut fmt::Formatter<'_>) -> fmt::Result {
+        say(f, *self, self.opcode())
+    }
+}
+
+/// A refusal beside the opcode of the record that was refused.
+#[derive(Clone, Copy, Debug, PartialEq, Eq, Hash)]
+pub struct RefusedRecord {
+    /// Why it was refused.
+    pub refusal: Refusal,
+    /// The record's opcode number.
+    pub opcode: u16,
+}
+
+impl fmt::Display for RefusedRecord {
+    fn fmt(&self, f: &mut fmt::Formatter<'_>) -> fmt::Result {
+        let named = opcode_name(self.opcode).map(|_| self.opcode);
+        say(f, self.refusal, self.refusal.opcode().or(named))
+    }
+}
+
+/// The words of every refusal: its number, what the answer says beside it, the reason.
+fn say(f: &mut fmt::Formatter<'_>, refusal: Refusal, opcode: Option<u16>) -> fmt::Result {
+    let (number, reason) = refusal.row();
+    write!(f, "refused {number}")?;
+    if let Some(opcode) = opcode {
+        write!(f, " (opcode {opcode}")?;
+        if let Some(name) = opcode_name(opcode) {
+            write!(f, ", {name}")?;
+        }
+        f.write_str(")")?;
+    }
+    write!(f, ": {reason}")
+}
+
+#[cfg(feature = "std")]
+impl std::error::Error for Refusal {}

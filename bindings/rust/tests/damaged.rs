@@ -114,7 +114,7 @@ fn each_refusal() {
     assert_eq!(visit(&good, &file, &mut [], 0), Err(Refusal::Room));
     assert_eq!(
         Refusal::Complex { opcode: 24 }.to_string(),
-        "refused 4: complex instruction, opcode 24"
+        "refused 4 (opcode 24, BT): complex: its accesses are no plain list"
     );
     assert!(log.iter().all(|&b| b == 0));
 }

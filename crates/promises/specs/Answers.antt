@@ -1,7 +1,8 @@
 -- The other calls: listing, digest, privilege, exceptions, reading a log, and the setters. A row is what is asked and what is answered.
-use Prim.Native.Nat.{ℕ, _^_}
+use Prim.Native.Nat.{ℕ, _-_, _^_}
 use mathlib.Core.List.{List, [], _∷_}
 use mathlib.Core.Bool.{Bool, true, false}
+use lib.ListN.{getD}
 use Rattle.access.specs.Exceptions.{infoOf, anyOf, noneOf, setOf, thenSet, mayOf, infoNumber, infoVectors, mayNumber, mayValue}
 use Rattle.access.specs.declared.InfoAnswer.{InfoAnswer}
 use Rattle.access.specs.declared.InfoAnswer.the-variants as info
@@ -10,7 +11,7 @@ use Rattle.access.specs.declared.MayAnswer.the-variants as asked
 use Rattle.access.specs.declared.PrivilegeLevel.{PrivilegeLevel}
 use Rattle.access.specs.declared.PrivilegeLevel.the-variants.{Any, PL0, Special, Reserved}
 use Rattle.registers.specs.Banks as banks
-use Rattle.registers.specs.Files.{fileAnswer}
+use Rattle.registers.specs.Files.{fileOf, fileAnswer}
 use Rattle.registers.specs.declared.FileAnswer.{FileAnswer}
 use Rattle.digest.specs.Digests.{withPrivilege, withFlags, withNontrivial, withComplex, operandAnswer, listAnswer, then, digestNumber, digestIn}
 use Rattle.digest.specs.declared.BehaviorDigest.{BehaviorDigest}
@@ -24,16 +25,20 @@ use Rattle.implicit.specs.declared.Entry.the-variants.{Operand, Slot, End}
 use Rattle.record.specs.Records.{recordOf, recordAnswer}
 use Rattle.record.specs.declared.RecordAnswer.{RecordAnswer}
 use Rattle.definition.specs.Behaviors.{digestCall, privilegeCall, exceptionsCall, privilegeNumber, privilegeIn}
-use Rattle.definition.specs.Visits.{numberOf, opcodeOf, countOf}
+use Rattle.definition.specs.Limits.{mostListed}
+use Rattle.definition.specs.Logs.{bytesOf}
+use Rattle.definition.specs.Visits.{logOf, numberOf, opcodeOf, countOf}
 use Rattle.definition.specs.Readings.{readAt}
 use Rattle.definition.specs.declared.PrivilegeAnswer.{PrivilegeAnswer}
 use Rattle.definition.specs.declared.PrivilegeAnswer.the-variants as level
 use Rattle.definition.specs.declared.Answer.{Answer}
 use Rattle.definition.specs.declared.Answer.the-variants.{Done, Refused, Complex, Short}
+use Rattle.definition.specs.declared.Event.{Event}
 use Rattle.definition.specs.declared.Event.the-variants.{RegisterRead, RegisterWrite, MemoryRead, MemoryWrite, UnknownRead, UnknownWrite}
 use Rattle.definition.specs.declared.Reading.{Reading}
 use Rattle.definition.specs.declared.Reading.the-variants.{Found, Bad, Finished}
-use Rattle.promises.specs.Rows.{Patch, recordWith, fileKnowing, knows, long, opcode, count, specs, regs, size, prefixes, behavior, access, list, W, Nothing, RegRRR, RegMMM, Deref, Row, rowIn, row}
+use Rattle.promises.specs.Rows.{Patch, recordWith, fileKnowing, knows, long, opcode, count, specs, regs, size, disp, prefixes, behavior, access, list, W, Nothing, RegRRR, RegMMM, Deref, Disp, Row, rowIn, row}
+use Rattle.promises.specs.Fullest.{fullest-fields}
 
 -- Listing
 unfoldable pub listings : List Row
@@ -63,6 +68,11 @@ listings =
     ∷ rowIn 5 5 [] [] (Done 0) []
     ∷ rowIn 5 6 [] [] (Short 0) []
     ∷ rowIn 0 1 (opcode 1 ∷ behavior 0x18 ∷ specs (RegMMM ∷ []) ∷ regs 1 W 0 ∷ []) [] (Short 18) []
+    -- the fullest listing fits in the most bytes that a listing has, and not in one less
+    ∷ rowIn mostListed 0 fullest-fields [] (Done 34)
+    (0x41 ∷ 3 ∷ 0x42 ∷ 0 ∷ 4 ∷ 1 ∷ 0x42 ∷ 0 ∷ 4 ∷ 2 ∷ 0x44 ∷ 0 ∷ 4 ∷ 0xF8 ∷ 0xFF ∷ 0xFF ∷ 0xFF ∷ 2
+    ∷ 0x46 ∷ 0 ∷ 33 ∷ 3 ∷ 0x46 ∷ 1 ∷ 33 ∷ 3 ∷ 0x46 ∷ 2 ∷ 33 ∷ 3 ∷ 0x46 ∷ 3 ∷ 33 ∷ 3 ∷ [])
+    ∷ rowIn (mostListed - 1) 0 fullest-fields [] (Short 34) []
     ∷ []
 
 -- The digest after fix-ups
@@ -182,6 +192,10 @@ privileges =
 abbrev pub readingFrom : List ℕ × ℕ → Reading
 readingFrom a = readAt (a .0) (a .1)
 
+-- the log of an address whose sum wraps
+abbrev wrapped : List Event
+wrapped = logOf (recordWith (specs (Disp ∷ []) ∷ disp 0xFFFFFFF8 ∷ [])) (fileOf (fileKnowing (knows 0 16 ∷ [])))
+
 unfoldable pub readings : List ((List ℕ × ℕ) × Reading)
 readings =
     (((1 ∷ 0 ∷ 15 ∷ []), 0), Found (RegisterRead (banks.reg 0 15)) 3)
@@ -190,6 +204,8 @@ readings =
     ∷ (((0 ∷ 4 ∷ 0 ∷ 0 ∷ 0 ∷ 0 ∷ 0 ∷ 0 ∷ 0 ∷ 0x80 ∷ 1 ∷ []), 1), Found (MemoryWrite (2 ^ 63) 1) 11)
     ∷ (((5 ∷ 1 ∷ []), 0), Found (UnknownRead 1) 2)
     ∷ (((6 ∷ 64 ∷ 0 ∷ []), 0), Found (UnknownWrite 64) 2)
+    -- what a log's bytes stand for, where a sum wraps: the event itself
+    ∷ ((bytesOf wrapped, 3), Found (getD wrapped 1 (UnknownRead 0)) 13)
     -- finished at the end and past it
     ∷ (([], 0), Finished)
     ∷ (((5 ∷ 1 ∷ []), 2), Finished)

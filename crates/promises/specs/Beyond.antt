@@ -1,9 +1,12 @@
 -- What P1 to P11 do not see of visiting: a row for each error that looks reasonable, each edge of a rule and each place of the
 -- refusals' order.
+use Prim.Native.Nat.{_+_, _-_, _*_}
 use mathlib.Core.List.{List, [], _∷_}
+use Rattle.definition.specs.Limits.{mostBytes, mostEvents}
 use Rattle.definition.specs.declared.Answer.the-variants.{Done, Refused, Complex, Short}
 use Rattle.promises.specs.Rows.{put, long, opcode, count, specs, regs, size, scale, disp, imm, prefixes, mask, behavior, access, list, knows, Q, D, W, B, K, RFLAGS, Nothing, RegRRR, RegMMM, RegVex, Reg4, RegRRR-maskmerge, Deref, Deref-mask, Deref-rsi, Deref-edi, Disp, MemIndexScale, MemBaseIndexScale, MemBaseIndexScale-mask, MemBaseIndexScaleDisp, DispU64, DispU32, log, reads, writes, loads, stores, loads-unknown, stores-unknown, Row, rowIn, row}
 use Rattle.promises.specs.Bench.{P2, P2-file, P2-log}
+use Rattle.promises.specs.Fullest.{fullest-fields, fullest-known, fullest-log}
 
 -- Only an explicit unmasked write to D is logged as Q
 unfoldable pub widening : List Row
@@ -179,4 +182,7 @@ refusing =
     ∷ rowIn 5 5 [] [] (Done 0) []
     ∷ rowIn 5 6 [] [] (Short 0) []
     ∷ rowIn 0 0 [] [] (Done 0) []
+    -- the fullest log fits in the most bytes that a log has, and not in one less; an event has 3 bytes, and 9 of these, of memory, 7 more
+    ∷ rowIn mostBytes 0 fullest-fields fullest-known (Done (3 * mostEvents + 7 * 9)) fullest-log
+    ∷ rowIn (mostBytes - 1) 0 fullest-fields fullest-known (Short (3 * mostEvents + 7 * 9)) []
     ∷ []

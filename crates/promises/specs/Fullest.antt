@@ -1,14 +1,29 @@
 -- A record and a file that reach every bound: list 26, flags read and written, and four masked operands of base and index, read and
 -- written at known addresses.
-use Prim.Native.Nat.{ℕ}
-use mathlib.Core.List.{List, [], _∷_}
-use Rattle.promises.specs.Rows.{recordWith, specs, regs, mask, behavior, access, list, fileKnowing, knows, Q, MemBaseIndexScaleDisp-mask}
+use Prim.Native.Nat.{ℕ, _-_, _^_}
+use mathlib.Core.List.{List, [], _∷_, _++_}
+use Rattle.promises.specs.Rows.{Patch, recordWith, specs, regs, mask, behavior, access, list, fileKnowing, knows, Q, K, RFLAGS, MemBaseIndexScaleDisp-mask, log, reads, writes, loads, stores}
+
+abbrev pub fullest-fields : List Patch
+fullest-fields =
+    specs (MemBaseIndexScaleDisp-mask ∷ MemBaseIndexScaleDisp-mask ∷ MemBaseIndexScaleDisp-mask ∷ MemBaseIndexScaleDisp-mask ∷ [])
+    ∷ access 0xFF ∷ behavior 0x0C ∷ list 26 ∷ mask 1 ∷ regs 1 Q 3 ∷ regs 2 Q 1 ∷ []
 
 abbrev pub fullest : List ℕ
-fullest =
-    recordWith
-    (specs (MemBaseIndexScaleDisp-mask ∷ MemBaseIndexScaleDisp-mask ∷ MemBaseIndexScaleDisp-mask ∷ MemBaseIndexScaleDisp-mask ∷ [])
-    ∷ access 0xFF ∷ behavior 0x0C ∷ list 26 ∷ mask 1 ∷ regs 1 Q 3 ∷ regs 2 Q 1 ∷ [])
+fullest = recordWith fullest-fields
+
+abbrev pub fullest-known : List Patch
+fullest-known = knows 1 1 ∷ knows 3 3 ∷ knows 4 4 ∷ []
 
 abbrev pub fullest-file : List ℕ
-fullest-file = fileKnowing (knows 1 1 ∷ knows 3 3 ∷ knows 4 4 ∷ [])
+fullest-file = fileKnowing fullest-known
+
+-- what one of its operands logs
+abbrev each-operand : List (List ℕ)
+each-operand = reads Q 3 ∷ reads Q 1 ∷ reads K 1 ∷ loads 3 8 ∷ reads Q 3 ∷ reads Q 1 ∷ reads K 1 ∷ stores 3 8 ∷ []
+
+abbrev pub fullest-log : List ℕ
+fullest-log =
+    log
+    ((reads Q 4 ∷ writes Q 4 ∷ reads Q 4 ∷ stores (2 ^ 64 - 4) 8 ∷ reads RFLAGS 0 ∷ writes RFLAGS 0 ∷ [])
+    ++ (each-operand ++ (each-operand ++ (each-operand ++ each-operand))))

@@ -214,12 +214,19 @@ buffer n = replicate n 0xEE
 abbrev pub said : Row → Answer × List ℕ
 said r = (r .answer, take (r .start) (buffer (r .room)) ++ (r .bytes ++ drop (r .start + length (r .bytes)) (buffer (r .room))))
 
--- every row says what the definition of visiting, or of listing, gives
+-- what the definition of visiting, and of listing, gives of a row
+abbrev pub visited : Row → Answer × List ℕ
+visited r = visitOf (recordWith (r .fields)) (fileKnowing (r .file)) (buffer (r .room)) (r .start)
+
+abbrev pub listed : Row → Answer × List ℕ
+listed r = listingCall (recordWith (r .fields)) (buffer (r .room)) (r .start)
+
+-- every row says so
 abbrev pub Visited : List Row → Type 0
-Visited rows = map (λ (r : Row). visitOf (recordWith (r .fields)) (fileKnowing (r .file)) (buffer (r .room)) (r .start)) rows ≡ map said rows
+Visited rows = map visited rows ≡ map said rows
 
 abbrev pub Listed : List Row → Type 0
-Listed rows = map (λ (r : Row). listingCall (recordWith (r .fields)) (buffer (r .room)) (r .start)) rows ≡ map said rows
+Listed rows = map listed rows ≡ map said rows
 
 -- every row of two, an input and an output, says what a function gives
 abbrev pub Table : {A B : Type 0} → (A → B) → List (A × B) → Type 0

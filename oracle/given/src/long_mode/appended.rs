@@ -124,3 +124,12 @@ impl InstBehavior<'_> {
         (self.behavior.behavior, self.behavior.operand_access, self.behavior.extra)
     }
 }
+
+/// The text's own setter and its own reading of two bits, which it keeps to itself.
+pub fn operand_access_with(operand: u8, access: Access) -> u8 {
+    BehaviorDigest::empty().set_operand(operand, access).operand_access
+}
+
+pub fn access_from_bits(bits: u8) -> Option<Access> {
+    Access::from_bits(bits)
+}

@@ -1,0 +1,120 @@
+//! Register files: a builder, and a look inside.
+use crate::calls::visit;
+use crate::refusal::Refusal;
+use crate::{FILE_BYTES, RECORD_BYTES};
+use core::ops::Deref;
+
+/// A register that a file can know.
+#[derive(Clone, Copy, Debug, PartialEq, Eq, Hash)]
+#[allow(missing_docs)]
+pub enum Known {
+    Rax,
+    Rcx,
+    Rdx,
+    Rbx,
+    Rsp,
+    Rbp,
+    Rsi,
+    Rdi,
+    R8,
+    R9,
+    R10,
+    R11,
+    R12,
+    R13,
+    R14,
+    R15,
+    /// That of the next instruction.
+    Rip,
+}
+
+impl Known {
+    /// The place of the register's value in a file.
+    fn value_at(self) -> core::ops::Range<usize> {
+        let begin = 5 + 8 * self as usize;
+        begin..begin + 8
+    }
+
+    /// The byte and the bit that say that the register is known.
+    fn bit(self) -> (usize, u8) {
+        (1 + self as usize / 8, 1 << (self as usize % 8))
+    }
+}
+
+/// A register file of kind 0x20. No file that this type holds is refused.
+///
+/// ```
+/// use machhurel::{known, Known, RegisterFile};
+/// let file = RegisterFile::new().with(Known::Rbx, 0x1000);
+/// assert_eq!(known(&file, Known::Rbx), Some(0x1000));
+/// assert_eq!(known(&file, Known::Rax), None);
+/// ```
+#[derive(Clone, Copy, Debug, PartialEq, Eq, Hash)]
+pub struct RegisterFile([u8; FILE_BYTES]);
+
+impl RegisterFile {
+    /// A file that knows nothing.
+    pub const fn new() -> RegisterFile {
+        let mut bytes = [0; FILE_BYTES];
+        bytes[0] = 0x20;
+        RegisterFile(bytes)
+    }
+
+    /// This file, knowing a register's value.
+    #[must_use]
+    pub fn with(mut self, register: Known, value: u64) -> RegisterFile {
+        let (byte, bit) = register.bit();
+        self.0[byte] |= bit;
+        self.0[register.value_at()].copy_from_slice(&value.to_le_bytes());
+        self
+    }
+}
+
+impl Default for RegisterFile {
+    fn default() -> Self {
+        RegisterFile::new()
+    }
+}
+
+impl Deref for RegisterFile {
+    type Target = [u8];
+
+    fn deref(&self) -> &[u8] {
+        &self.0
+    }
+}
+
+/// The bytes join as a trace: `[file, file].concat()`.
+impl core::borrow::Borrow<[u8]> for RegisterFile {
+    fn borrow(&self) -> &[u8] {
+        &self.0
+    }
+}
+
+/// What a register file knows of a register; nothing where the bytes are no register file.
+pub fn known(file: &[u8], register: Known) -> Option<u64> {
+    let (byte, bit) = register.bit();
+    if file.first() != Some(&0x20) || file.len() != FILE_BYTES || file.get(byte)? & bit == 0 {
+        return None;
+    }
+    let value = file.get(register.value_at())?;
+    Some(u64::from_le_bytes(value.try_into().ok()?))
+}
+
+/// A record that touches nothing.
+const NOTHING: [u8; RECORD_BYTES] = {
+    let mut bytes = [0; RECORD_BYTES];
+    bytes[0] = 0x10;
+    bytes
+};
+
+/// Refuses what is no well-formed register file, as any visit under it would.
+///
+/// ```
+/// use machhurel::{check_file, Refusal, RegisterFile};
+/// assert_eq!(check_file(&RegisterFile::new()), Ok(()));
+/// assert_eq!(check_file(&[]), Err(Refusal::File));
+/// ```
+pub fn check_file(file: &[u8]) -> Result<(), Refusal> {
+    visit(&NOTHING, file, &mut [], 0).map(|_| ())
+}

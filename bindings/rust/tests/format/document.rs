@@ -1,0 +1,45 @@
+//! The document, taken apart: sections, the rows of a table, and numbers in them.
+const FORMAT: &str = include_str!("../../../../docs/FORMAT.md");
+
+/// The lines of a section.
+pub fn section(title: &str) -> Vec<&'static str> {
+    let from_title = FORMAT
+        .split(&format!("\n## {title}\n"))
+        .nth(1)
+        .expect(title);
+    from_title
+        .split("\n## ")
+        .next()
+        .expect(title)
+        .lines()
+        .collect()
+}
+
+/// The rows of a section's table whose first cell is a number, as cells.
+pub fn rows(title: &str) -> Vec<Vec<&'static str>> {
+    let cells = |line: &'static str| {
+        line.trim_matches('|')
+            .split('|')
+            .map(str::trim)
+            .collect::<Vec<_>>()
+    };
+    let is_row = |row: &Vec<&str>| row[0].parse::<u8>().is_ok();
+    section(title)
+        .into_iter()
+        .filter(|line| line.starts_with('|'))
+        .map(cells)
+        .filter(is_row)
+        .collect()
+}
+
+pub fn number(text: &str) -> u64 {
+    text.trim()
+        .parse()
+        .unwrap_or_else(|_| panic!("no number: {text:?}"))
+}
+
+/// `FIRST-LAST`.
+pub fn range(text: &str) -> (u64, u64) {
+    let (first, last) = text.split_once('-').expect(text);
+    (number(first), number(last))
+}

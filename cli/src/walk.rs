@@ -1,0 +1,178 @@
+//! A walk through a trace: every record visited under the last good register file before it.
+use crate::output::{complain, reason};
+use crate::progress::Progress;
+use crate::source::Source;
+use crate::status::Status;
+use crate::terminal;
+use machhurel::{
+    check_file, known, visit, Class, Known, Refusal, TraceError, TraceReader, FILE_BYTES, LOG_BYTES,
+};
+use std::io::Read;
+
+/// What stands at a place of a trace.
+pub(crate) enum Step<'a> {
+    /// A good register file.
+    File,
+    /// A register file that is refused: it is not used.
+    BadFile(Refusal),
+    /// A record with its opcode, and its log or why it was refused.
+    Record {
+        opcode: u16,
+        log: Result<&'a [u8], Refusal>,
+    },
+}
+
+pub(crate) struct Walk {
+    name: String,
+    reader: TraceReader<Box<dyn Read>>,
+    progress: Progress,
+    /// The last good register file; before the first one there are no bytes, which a visit refuses as no file.
+    file: Vec<u8>,
+    log: [u8; LOG_BYTES],
+    records: u64,
+    damages: u64,
+    /// What is wrong and has not been said yet.
+    unsaid: Option<String>,
+}
+
+impl Walk {
+    /// Opens a trace. Where it cannot be opened, that is said.
+    pub(crate) fn open(source: &Source, over_output: bool) -> Option<Walk> {
+        let name = source.name();
+        if let Source::Sample = source {
+            complain(format_args!(
+                "no trace is given: this is the sample, samples/torn.trace"
+            ));
+        }
+        match source.open() {
+            Err(error) => {
+                complain(format_args!("{name}: cannot be opened: {}", reason(&error)));
+                None
+            }
+            Ok(opened) => {
+                let shown = terminal::errors_are_terminal()
+                    && !(over_output && terminal::output_is_terminal());
+                Some(Walk {
+                    progress: Progress::new(&name, opened.length, shown),
+                    name,
+                    reader: TraceReader::new(opened.bytes),
+                    file: Vec::with_capacity(FILE_BYTES),
+                    log: [0; LOG_BYTES],
+                    records: 0,
+                    damages: 0,
+                    unsaid: None,
+                })
+            }
+        }
+    }
+
+    /// The trace's name, shown harmlessly.
+    pub(crate) fn name(&self) -> &str {
+        &self.name
+    }
+
+    /// The byte up to which it was read.
+    pub(crate) fn at(&self) -> u64 {
+        self.reader.at()
+    }
+
+    /// How many records were read.
+    pub(crate) fn records(&self) -> u64 {
+        self.records
+    }
+
+    /// How many places of it are damaged, the one at which it was not read further among them.
+    pub(crate) fn damages(&self) -> u64 {
+        self.damages
+    }
+
+    /// The register file's rip, where it is known.
+    pub(crate) fn rip(&self) -> Option<u64> {
+        known(&self.file, Known::Rip)
+    }
+
+    /// Whether the next step is at hand. Where it is not, what has been told should be seen meanwhile.
+    pub(crate) fn is_ready(&self) -> bool {
+        self.reader.is_ready()
+    }
+
+    /// The next step; none at the end of the trace, or where it is damaged. What is wrong waits for `complain`.
+    pub(crate) fn step(&mut self) -> Option<Step<'_>> {
+        self.progress.tell(self.reader.at(), self.records);
+        let item = match self.reader.next_item() {
+            Ok(item) => item,
+            Err(error) => {
+                self.damage(self.reader.at(), &words(&error));
+                return None;
+            }
+        };
+        match item {
+            None => {
+                self.end();
+                None
+            }
+            Some(item) if item.class == Class::File => {
+                if let Err(refusal) = check_file(item.bytes) {
+                    let words = format!("damaged: register file {refusal}; not used");
+                    let at = item.at;
+                    self.damage(at, &words);
+                    return Some(Step::BadFile(refusal));
+                }
+                self.file.clear();
+                self.file.extend_from_slice(item.bytes);
+                Some(Step::File)
+            }
+            Some(item) => {
+                self.records = self.records.saturating_add(1);
+                let opcode = item.opcode().unwrap_or(0);
+                let log = match visit(item.bytes, &self.file, &mut self.log, 0) {
+                    Ok(n) => self.log.get(..n).ok_or(Refusal::Room),
+                    Err(refusal) => Err(refusal),
+                };
+                Some(Step::Record { opcode, log })
+            }
+        }
+    }
+
+    /// Whether something is wrong that has not been said: what came before it should be written first.
+    pub(crate) fn has_complaint(&self) -> bool {
+        self.unsaid.is_some()
+    }
+
+    /// Says what is wrong.
+    pub(crate) fn complain(&mut self) {
+        if let Some(words) = self.unsaid.take() {
+            self.progress.clear();
+            complain(format_args!("{}: {words}", self.name));
+        }
+    }
+
+    /// Whether all was read and well, once all is said.
+    pub(crate) fn status(&mut self) -> Status {
+        self.complain();
+        self.progress.clear();
+        match self.damages {
+            0 => Status::Done,
+            _ => Status::Failed,
+        }
+    }
+
+    fn end(&mut self) {
+        if self.records == 0 {
+            self.unsaid = Some("there is no record in it".to_string());
+        }
+    }
+
+    /// What is wrong at a place.
+    fn damage(&mut self, at: u64, words: &str) {
+        self.damages = self.damages.saturating_add(1);
+        self.unsaid = Some(format!("byte {at}, record {}: {words}", self.records));
+    }
+}
+
+fn words(error: &TraceError) -> String {
+    match error {
+        TraceError::Broken(broken) => format!("{broken}; not read further"),
+        TraceError::Unread(error) => format!("cannot be read: {}", reason(error)),
+    }
+}

@@ -1,4 +1,0 @@
-pub mod Ascii
-pub mod Names
-pub mod Words
-pub mod Reports
