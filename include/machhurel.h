@@ -15,7 +15,8 @@
  *   event    1 register read, 2 register write (bank, number); 3 memory read, 4 memory write (8 address bytes, size);
  *            5 memory read, 6 memory write at an unknown address (size)
  *
- * Refusal numbers, tested in this order; a refused call changes no byte of a buffer, and every other part of its answer is 0:
+ * Refusal numbers, tested in this order; a refused call changes no byte of a buffer, and but for what 4 and 7 carry every other part
+ * of its answer is 0:
  *
  *   1  the record is not 40 bytes of kind 0x10; in a log: an unknown kind, or an event cut short
  *   2  a field of the record is outside its table; in a log: a bad register, or a size outside 1 to 64
@@ -23,7 +24,7 @@
  *   4  the instruction is complex: its accesses are not a plain list. The answer carries the opcode
  *   5  an operand that is accessed names no register or memory, or a string list names no string slot
  *   6  memory is accessed and the record's memory size is 0
- *   7  the start lies past the buffer's end, or the buffer has too little room behind it
+ *   7  the start lies past the buffer's end, or the buffer has too little room behind it. The answer carries the bytes needed
  */
 #ifndef MACHHUREL_H
 #define MACHHUREL_H
@@ -49,7 +50,7 @@ extern "C" {
 /* Every answer: the refusal number, 0 for none (for machhurel_event also MACHHUREL_FINISHED). */
 #define MACHHUREL_NUMBER(answer) MACHHUREL_CAST(unsigned, ((answer) & 0xFF))
 
-/* machhurel_visit, machhurel_listing: the bytes written, and after refusal 4 the opcode. */
+/* machhurel_visit, machhurel_listing: the bytes written, after refusal 7 those needed; and after refusal 4 the opcode. */
 #define MACHHUREL_COUNT(answer) MACHHUREL_CAST(uint32_t, ((answer) >> 32))
 #define MACHHUREL_OPCODE(answer) MACHHUREL_CAST(uint16_t, (((answer) >> 8) & 0xFFFF))
 
@@ -69,14 +70,15 @@ extern "C" {
 
 /*
  * Writes the log of the record under the register file into log[start..], and answers its length in MACHHUREL_COUNT. Refuses 1 to 7. With
- * MACHHUREL_LOG_BYTES of room behind the start it never refuses 7.
+ * MACHHUREL_LOG_BYTES of room behind the start it never refuses 7. After 7 MACHHUREL_COUNT has the length of the log: the same call with
+ * so many bytes behind its start succeeds.
  */
 uint64_t machhurel_visit(const uint8_t *record, size_t record_len, const uint8_t *file, size_t file_len, uint8_t *log, size_t log_len,
                          size_t start);
 
 /*
  * Writes the listing of the record's operands into out[start..]: flags, implicit operands, explicit operands, without a register file.
- * Answers its length in MACHHUREL_COUNT. Refuses 1, 2, 4, 7.
+ * Answers its length in MACHHUREL_COUNT, after 7 too. Refuses 1, 2, 4, 7.
  */
 uint64_t machhurel_listing(const uint8_t *record, size_t record_len, uint8_t *out, size_t out_len, size_t start);
 

@@ -43,13 +43,12 @@ impl Output {
         self.flush()
     }
 
-    /// Writes what has gathered.
+    /// Writes what has gathered. What could not be written is not tried again.
     pub(crate) fn flush(&mut self) -> Result<(), Unwritten> {
         let mut out = io::stdout();
-        out.write_all(&self.bytes)?;
-        out.flush()?;
+        let written = out.write_all(&self.bytes).and_then(|()| out.flush());
         self.bytes.clear();
-        Ok(())
+        Ok(written?)
     }
 }
 

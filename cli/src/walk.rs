@@ -126,7 +126,7 @@ impl Walk {
                 self.records = self.records.saturating_add(1);
                 let opcode = item.opcode().unwrap_or(0);
                 let log = match visit(item.bytes, &self.file, &mut self.log, 0) {
-                    Ok(n) => self.log.get(..n).ok_or(Refusal::Room),
+                    Ok(n) => self.log.get(..n).ok_or(Refusal::Room { needed: n }),
                     Err(refusal) => Err(refusal),
                 };
                 Some(Step::Record { opcode, log })

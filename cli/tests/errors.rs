@@ -168,9 +168,11 @@ fn output_that_cannot_be_written_is_1() {
             .output()
             .unwrap()
             .into();
-        failed(
-            &ran,
-            "machhurel: standard output: No space left on device\n",
+        let said = "machhurel: standard output: No space left on device\n";
+        assert_eq!(
+            (ran.status, ran.errors.as_str()),
+            (Some(1), said),
+            "{words:?}"
         );
     }
 }

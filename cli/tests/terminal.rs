@@ -26,9 +26,9 @@ fn with_no_pipe_the_sample_is_shown() {
     assert!(text.contains("9  -  refused 6: memory is accessed and its size is 0\r\n"));
 }
 
-/// A trace that takes some seconds to come.
-fn slow() -> String {
-    let path = folder("slow").join("slow.trace");
+/// A trace that takes some seconds to come; each test has a folder of its own.
+fn slow(name: &str) -> String {
+    let path = folder(name).join("slow.trace");
     std::fs::write(&path, common::torn().repeat(2_000)).unwrap();
     let path = path.to_str().unwrap();
     format!("{{ for k in 1 2 3 4; do cat '{path}'; sleep 0.3; done; }}")
@@ -36,7 +36,7 @@ fn slow() -> String {
 
 #[test]
 fn a_long_trace_has_a_progress_line_that_goes_away() {
-    let text = on_terminal(&format!("{} | \"$COMMAND\" summary -", slow()));
+    let text = on_terminal(&format!("{} | \"$COMMAND\" summary -", slow("progress")));
     assert!(
         text.contains("\r\x1b[Kmachhurel: standard input: "),
         "{text:?}"
@@ -51,14 +51,12 @@ fn a_long_trace_has_a_progress_line_that_goes_away() {
 
 #[test]
 fn no_progress_where_errors_are_no_terminal_or_lines_come_there() {
-    let quiet = on_terminal(&format!("{} | \"$COMMAND\" summary - 2>&1 | cat", slow()));
+    let slow = slow("none");
+    let quiet = on_terminal(&format!("{} | \"$COMMAND\" summary - 2>&1 | cat", slow));
     assert!(!quiet.contains('\x1b'), "{quiet:?}");
-    let lines = on_terminal(&format!(
-        "{} | \"$COMMAND\" show --records 79999.. -",
-        slow()
-    ));
+    let lines = on_terminal(&format!("{} | \"$COMMAND\" show --records 79999.. -", slow));
     assert!(!lines.contains('\x1b'), "{lines:?}");
-    let beside = on_terminal(&format!("{} | \"$COMMAND\" show - > /dev/null", slow()));
+    let beside = on_terminal(&format!("{} | \"$COMMAND\" show - > /dev/null", slow));
     assert!(
         beside.contains("\r\x1b[Kmachhurel: standard input: "),
         "{beside:?}"

@@ -12,6 +12,20 @@ fn answered(answer: u64) -> Result<u64, Refusal> {
 /// let mut log = [0u8; 4];
 /// assert_eq!(machhurel::visit(b"no record", &[], &mut log, 0), Err(machhurel::Refusal::Form));
 /// ```
+///
+/// Refused for too little room, it says how much the same call needs:
+///
+/// ```
+/// use machhurel::{visit, Refusal};
+/// let mut record = [0u8; machhurel::RECORD_BYTES];
+/// record[..5].copy_from_slice(&[0x10, 40, 0, 1, 1]); // one operand, RegRRR
+/// record[37] = 1; // which is read
+/// let mut file = [0u8; machhurel::FILE_BYTES];
+/// file[0] = 0x20;
+/// let refused = visit(&record, &file, &mut [], 0);
+/// assert_eq!(refused, Err(Refusal::Room { needed: 3 }));
+/// assert_eq!(visit(&record, &file, &mut [0; 3], 0), Ok(3));
+/// ```
 pub fn visit(record: &[u8], file: &[u8], log: &mut [u8], start: usize) -> Result<usize, Refusal> {
     // SAFETY: each pointer and length are those of a slice, and `log` is borrowed for writing alone.
     let answer = unsafe {

@@ -21,7 +21,10 @@ pub enum Refusal {
     /// 6: memory is accessed and the record's memory size is 0.
     Size,
     /// 7: the start lies past the buffer's end, or too little room is behind it.
-    Room,
+    Room {
+        /// How many bytes behind the start the same call needs: those of its log or listing.
+        needed: usize,
+    },
 }
 
 impl Refusal {
@@ -37,7 +40,7 @@ impl Refusal {
             Refusal::Complex { .. } => (4, "complex: its accesses are no plain list"),
             Refusal::Operand => (5, "an accessed operand names no register or memory"),
             Refusal::Size => (6, "memory is accessed and its size is 0"),
-            Refusal::Room => (7, "too little room behind the start"),
+            Refusal::Room { .. } => (7, "too little room behind the start"),
         }
     }
 
@@ -63,7 +66,9 @@ impl Refusal {
             },
             5 => Refusal::Operand,
             6 => Refusal::Size,
-            _ => Refusal::Room,
+            _ => Refusal::Room {
+                needed: (answer >> 32) as usize,
+            },
         })
     }
 
@@ -116,6 +121,9 @@ impl fmt::Display for RefusedRecord {
 fn say(f: &mut fmt::Formatter<'_>, refusal: Refusal, opcode: Option<u16>) -> fmt::Result {
     let (number, reason) = refusal.row();
     write!(f, "refused {number}")?;
+    if let Refusal::Room { needed } = refusal {
+        write!(f, " ({needed} bytes needed)")?;
+    }
     if let Some(opcode) = opcode {
         write!(f, " (opcode {opcode}")?;
         if let Some(name) = opcode_name(opcode) {

@@ -105,13 +105,13 @@ fn each_refusal() {
     );
     assert_eq!(
         visit(&good, &file, &mut log, LOG_BYTES + 1),
-        Err(Refusal::Room)
+        Err(Refusal::Room { needed: 10 })
     );
     assert_eq!(
         visit(&good, &file, &mut log, usize::MAX),
-        Err(Refusal::Room)
+        Err(Refusal::Room { needed: 10 })
     );
-    assert_eq!(visit(&good, &file, &mut [], 0), Err(Refusal::Room));
+    assert_eq!(visit(&good, &file, &mut [], 0), Err(Refusal::Room { needed: 10 }));
     assert_eq!(
         Refusal::Complex { opcode: 24 }.to_string(),
         "refused 4 (opcode 24, BT): complex: its accesses are no plain list"

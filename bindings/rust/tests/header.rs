@@ -90,7 +90,7 @@ fn accesses_refusals_and_lists() {
         Refusal::Complex { opcode: 0 },
         Refusal::Operand,
         Refusal::Size,
-        Refusal::Room,
+        Refusal::Room { needed: 0 },
     ];
     for ((number, name), refusal) in group("REFUSED_").into_iter().zip(refusals) {
         assert_eq!(u64::from(refusal.number()), number);

@@ -115,7 +115,10 @@ fn words_of_refusals() {
             Refusal::Size,
             "refused 6: memory is accessed and its size is 0",
         ),
-        (Refusal::Room, "refused 7: too little room behind the start"),
+        (
+            Refusal::Room { needed: 32 },
+            "refused 7 (32 bytes needed): too little room behind the start",
+        ),
     ] {
         assert_eq!(refusal.to_string(), words);
         assert!(refusal.number() <= Refusal::MOST);

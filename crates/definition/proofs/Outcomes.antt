@@ -1,15 +1,15 @@
 -- The outcome of a call that writes, case by case: refused by what stands before the room, past the end, no room, written. They hold
 -- for the bytes of anything, so that listing and visiting cite the same laws. Assumes nothing.
-use Prim.Native.Nat.{ℕ, _-_, _≤_, _<_}
+use Prim.Native.Nat.{ℕ, _-_, _≤_}
 use native.Mathlib.Omega.{arith}
 use mathlib.Core.Path.{_≡_, refl, sym, _∙_}
 use mathlib.Core.Bool.{Bool, true, false, not, cond}
 use mathlib.Core.List.{List, [], _∷_, _++_}
 use lib.ListN.{length}
-use borrow.Author.Tests.{lt-ltb, le-ltb, ne-eqb}
+use borrow.Author.Tests.{ne-eqb}
 use Rattle.laws.specs.Tests.{firstOf}
 use Rattle.laws.specs.Lists.{each}
-use Rattle.laws.specs.Lending.{Logged}
+use Rattle.laws.specs.Lending.{Logged, lacksRoom}
 use Rattle.laws.proofs.Choice.{first-later}
 use Rattle.laws.proofs.Every.{Every}
 use Rattle.laws.proofs.Lending.{part, back, spliced, part-length}
@@ -17,7 +17,7 @@ use Rattle.record.specs.Records.{isRecord, recordOf, outside, recordRefusal}
 use Rattle.record.proofs.Laws.{passed}
 use Rattle.definition.specs.Refusals.{noRoom}
 use Rattle.definition.specs.Visits.{outcome}
-use Rattle.definition.specs.declared.Answer.the-variants.{Done, Refused, Complex}
+use Rattle.definition.specs.declared.Answer.the-variants.{Done, Refused, Complex, Short}
 
 -- A table of refusals in two parts: the first part refuses, or it passes and the second part decides
 pub first-front : (ts us : List (Bool × ℕ)) {k : ℕ} → firstOf ts ≡ k → (k ≡ 0 → ⊥) → firstOf (ts ++ us) ≡ k
@@ -41,42 +41,46 @@ module _ (b : List ℕ) (us : List (Bool × ℕ)) where
       let p = passed b e in
       first-back ((not (isRecord b), 1) ∷ (outside (recordOf b), 2) ∷ []) us (rw (p .is) refl, (p .in-tables, tt))
 
--- and no record is refused 4 by its bytes alone
-pub never-complex : (b : List ℕ) → recordRefusal b ≡ 4 → ⊥
+-- a number whose answer carries nothing but itself
+abbrev pub Bare : ℕ → Type 0
+Bare k = (k ≡ 0 → ⊥) × (k ≡ 4 → ⊥) × (k ≡ 7 → ⊥)
+
+-- the refusal that a record's bytes give is one
+pub bare-record : (b : List ℕ) → (recordRefusal b ≡ 0 → ⊥) → Bare (recordRefusal b)
 unfolding recordRefusal firstOf
-never-complex b e = by (not (isRecord b)) (outside (recordOf b)) e
+bare-record b ne = by (not (isRecord b)) (outside (recordOf b)) ne
   where
-    by : (s t : Bool) → cond {A = ℕ} s 1 (cond t 2 0) ≡ 4 → ⊥
-    by true t e = omega arith
-    by false true e = omega arith
-    by false false e = omega arith
+    by : (s t : Bool) → (cond {A = ℕ} s 1 (cond t 2 0) ≡ 0 → ⊥) → Bare (cond s 1 (cond t 2 0))
+    by true t ne = (ne, (λ e. omega arith), (λ e. omega arith))
+    by false true ne = (ne, (λ e. omega arith), (λ e. omega arith))
+    by false false ne = (ne, (λ e. omega arith), (λ e. omega arith))
 
 -- What a refusal number gives
 module _ (opcode : ℕ) (bytes buffer : List ℕ) (start : ℕ) where
-  pub refused : {number k : ℕ} → number ≡ k → (k ≡ 0 → ⊥) → (k ≡ 4 → ⊥) → outcome number opcode bytes buffer start ≡ (Refused k, buffer)
+  pub refused : {number k : ℕ} → number ≡ k → Bare k → outcome number opcode bytes buffer start ≡ (Refused k, buffer)
   unfolding outcome
-  refused {number} {k} e z f = rw (e, ne-eqb k 0 z, ne-eqb k 4 f)
+  refused {number} {k} e z = rw (e, ne-eqb k 0 (z .0), ne-eqb k 4 (z .1), ne-eqb k 7 (z .2))
 
   pub refused-complex : {number : ℕ} → number ≡ 4 → outcome number opcode bytes buffer start ≡ (Complex opcode, buffer)
   unfolding outcome
   refused-complex e = rw e
+
+  pub refused-short : {number : ℕ} → number ≡ 7 → outcome number opcode bytes buffer start ≡ (Short (length bytes), buffer)
+  unfolding outcome
+  refused-short e = rw e
 
 -- The last test of the table: the room decides, for n bytes in a buffer from a start on
 abbrev pub byRoom : ℕ → List ℕ → ℕ → ℕ
 byRoom n buffer start = firstOf ((noRoom n buffer start, 7) ∷ [])
 
 module _ (n : ℕ) (buffer : List ℕ) (start : ℕ) where
-  pub past-end : length buffer < start → byRoom n buffer start ≡ 7
+  pub too-short : lacksRoom n start (length buffer) ≡ true → byRoom n buffer start ≡ 7
   unfolding firstOf noRoom
-  past-end h = rw (lt-ltb (length buffer) start h)
+  too-short h = rw h
 
-  pub too-short : start ≤ length buffer → length buffer - start < n → byRoom n buffer start ≡ 7
+  pub enough : lacksRoom n start (length buffer) ≡ false → byRoom n buffer start ≡ 0
   unfolding firstOf noRoom
-  too-short s h = rw (le-ltb (length buffer) start s, lt-ltb (length buffer - start) n h)
-
-  pub enough : start ≤ length buffer → n ≤ length buffer - start → byRoom n buffer start ≡ 0
-  unfolding firstOf noRoom
-  enough s h = rw (le-ltb (length buffer) start s, le-ltb (length buffer - start) n h)
+  enough h = rw h
 
 -- that room, in the part that is lent from the start on
 pub lent-room : (buffer : List ℕ) (start : ℕ) {n : ℕ} → n ≤ length buffer - start → n ≤ length (part buffer start)

@@ -1,9 +1,10 @@
 -- What refusals 5, 6 and 7 ask. The record is one after fix-ups.
-use Prim.Native.Nat.{ℕ, _-_, _%_}
+use Prim.Native.Nat.{ℕ, _%_}
 use mathlib.Core.List.{List, [], _∷_}
 use mathlib.Core.Bool.{Bool, true, false, not, _&&_, _||_}
 use lib.ListN.{length}
 use lib.Dec.{ltb, eqb}
+use Rattle.laws.specs.Lending.{lacksRoom}
 use Rattle.laws.specs.Tests.{any, someOf, isIn}
 use Rattle.registers.specs.Banks.{isRegister}
 use Rattle.record.specs.Records.{specAt, regAt}
@@ -45,4 +46,4 @@ sizeless x = eqb (x .size) 0 && (accessed isMemory x || isIn (x .digest .extra) 
 
 -- refusal 7: the start lies past the buffer's end, or the part from it is shorter than n
 unfoldable pub noRoom : ℕ → List ℕ → ℕ → Bool
-noRoom n buffer start = ltb (length buffer) start || ltb (length buffer - start) n
+noRoom n buffer start = lacksRoom n start (length buffer)

@@ -66,11 +66,13 @@ pub enum Item {
     Explicit(u8, u8, Access),
 }
 
-// What visiting or listing answers: how many bytes it wrote, a refusal number, or the opcode of a complex instruction.
+// What visiting or listing answers: how many bytes it wrote, a refusal number, the opcode of a complex instruction (refused 4), or
+// how many bytes it needs where it has too little room (refused 7).
 pub enum Answer {
     Done(usize),
     Refused(u8),
     Complex(u16),
+    Short(usize),
 }
 
 // What the privilege call answers: the level, or a refusal number.

@@ -9,3 +9,4 @@ pub mod Numbers
 pub mod Bits
 pub mod Keys
 pub mod Outcomes
+pub mod Room

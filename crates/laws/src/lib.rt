@@ -4,6 +4,7 @@ ghost use mathlib.Core.Path.{_≡_};
 ghost use mathlib.Core.List.{_++_};
 ghost use Prim.Native.Nat.{_+_, _≤_, _<_};
 ghost use lib.ListN.{length, drop};
+ghost use Rattle.laws.specs.Lending.{lacksRoom};
 ghost use Rattle.laws.specs.Words.{numberAt, little};
 
 // The number of two bytes from place i on.
@@ -51,6 +52,13 @@ pub fn put_u64(out: &mut [u8], v: u64)
 {
     put_u32(out, (v % 4294967296) as u32);
     put_u32(&mut out[4..], (v / 4294967296) as u32);
+}
+
+// Whether so many bytes have no room from a start to the end of a buffer.
+pub fn lacks_room(n: usize, start: usize, end: usize) -> bool
+    ensures { λ r. ⌜ r ≡ lacksRoom n start end ⌝ }
+{
+    end < start || end - start < n
 }
 
 fn wide(b: u8) -> u16

@@ -1,49 +1,39 @@
 -- The outcomes of a listing, return by return. Assumes nothing.
-use Prim.Native.Nat.{ℕ, _-_, _≤_, _<_}
-use native.Mathlib.Omega.{arith}
+use Prim.Native.Nat.{ℕ, _≤_}
 use mathlib.Core.Path.{_≡_, sym, ap, _∙_}
 use mathlib.Core.Bool.{true, false}
-use mathlib.Core.List.{List, [], _∷_}
-use lib.Dec.{leb}
+use mathlib.Core.List.{List}
 use lib.ListN.{length}
-use borrow.Author.Tests.{leb-true, leb-false}
-use Rattle.laws.specs.Tests.{firstOf}
-use Rattle.laws.specs.Lending.{size, Logged}
+use Rattle.laws.specs.Lending.{size, Logged, lacksRoom}
 use Rattle.laws.proofs.Choice.{first-here, first-later}
 use Rattle.laws.proofs.Lending.{part, back}
+use Rattle.laws.proofs.Room.{has-left}
 use Rattle.record.specs.Records.{recordOf, recordAnswer}
 use Rattle.record.specs.declared.RecordAnswer.{RecordAnswer}
 use Rattle.record.proofs.Laws.{number-is, read-is}
 use Rattle.record.specs.declared.Record.{Record}
 use Rattle.definition.specs.Behaviors.{fixedUp, complex}
-use Rattle.definition.specs.Refusals.{noRoom}
 use Rattle.definition.specs.Visits.{fixedRecord, outcome}
 use Rattle.definition.specs.Listings.{itemsOf, itemBytes, listingOf, listingRefusal, listingCall}
-use Rattle.definition.specs.declared.Answer.the-variants.{Done, Refused, Complex}
-use Rattle.definition.proofs.Outcomes.{by-record, past-record, never-complex, refused, refused-complex, past-end, too-short, enough, lent-room, written}
+use Rattle.definition.specs.declared.Answer.the-variants.{Done, Refused, Complex, Short}
+use Rattle.definition.proofs.Outcomes.{by-record, past-record, bare-record, refused, refused-complex, refused-short, too-short, enough, lent-room, written}
 use Rattle.listing.specs.Calls.{listedFrom}
 
--- of a record that passed: past the end, no room, written
+-- of a record that passed: no room, written
 module _ (x : Record) (buffer : List ℕ) (start : ℕ) where
-  no-room : firstOf ((noRoom (length (listingOf x)) buffer start, 7) ∷ []) ≡ 7 → (Refused 7, buffer) ≡ listedFrom x buffer start
+  pub too-long : {n : ℕ} → lacksRoom (length (listingOf x)) start (length buffer) ≡ true → n ≡ length (listingOf x) → (Short n, buffer) ≡ listedFrom x buffer start
   unfolding listedFrom
-  no-room e = sym (refused (x .opcode) (listingOf x) buffer start e (λ z. omega arith) (λ z. omega arith))
+  too-long h e = rw e (sym (refused-short (x .opcode) (listingOf x) buffer start (too-short (length (listingOf x)) buffer start h)))
 
-  pub starts-past : length buffer < start → (Refused 7, buffer) ≡ listedFrom x buffer start
-  starts-past h = no-room (past-end (length (listingOf x)) buffer start h)
-
-  pub too-long : start ≤ length buffer → leb (length (listingOf x)) (length buffer - start) ≡ false → (Refused 7, buffer) ≡ listedFrom x buffer start
-  too-long s h = no-room (too-short (length (listingOf x)) buffer start s (leb-false _ _ h))
-
-  pub listing-room : leb (length (listingOf x)) (length buffer - start) ≡ true → size itemBytes (itemsOf x) ≤ length (part buffer start)
+  pub listing-room : lacksRoom (length (listingOf x)) start (length buffer) ≡ false → size itemBytes (itemsOf x) ≤ length (part buffer start)
   unfolding size
-  listing-room h = lent-room buffer start (leb-true _ _ h)
+  listing-room h = lent-room buffer start (has-left (length (listingOf x)) start (length buffer) h)
 
   pub fitting :
-      {ys : List ℕ} {n : ℕ} → start ≤ length buffer → leb (length (listingOf x)) (length buffer - start) ≡ true
+      {ys : List ℕ} {n : ℕ} → lacksRoom (length (listingOf x)) start (length buffer) ≡ false
       → Logged itemBytes (itemsOf x) (part buffer start) ys n → (Done n, back buffer start ys) ≡ listedFrom x buffer start
   unfolding listedFrom
-  fitting s h l = sym (written (x .opcode) buffer start (enough (length (listingOf x)) buffer start s (leb-true _ _ h)) l)
+  fitting h l = sym (written (x .opcode) buffer start (enough (length (listingOf x)) buffer start h) l)
 
 -- of bytes: refused 1 or 2, refused 4, or as the record that they are
 module _ (b buffer : List ℕ) (start : ℕ) {r : RecordAnswer} (e : r ≡ recordAnswer b) where
@@ -56,8 +46,7 @@ module _ (b buffer : List ℕ) (start : ℕ) {r : RecordAnswer} (e : r ≡ recor
       sym
       (refused (recordOf b .opcode) (listingOf (fixedRecord b)) buffer start
       (by-record b _ (λ z. ne (number-is b e ∙ z)) ∙ sym (number-is b e))
-      ne
-      (λ z. never-complex b (sym (number-is b e) ∙ z)))
+      (rw (number-is b e) (bare-record b (λ z. ne (number-is b e ∙ z)))))
 
   pub complex-one : {x : Record} → r .number ≡ 0 → x ≡ fixedUp (r .read) → complex x ≡ true → (Complex (x .opcode), buffer) ≡ listingCall b buffer start
   unfolding listingCall listingRefusal fixedUp

@@ -7,8 +7,7 @@ use record::Record;
 ghost use mathlib.Core.Path.{_≡_};
 ghost use Prim.Native.Nat.{_≤_};
 ghost use lib.ListN.{length};
-ghost use lib.Dec.{leb};
-ghost use Rattle.laws.specs.Lending.{size, Logged};
+ghost use Rattle.laws.specs.Lending.{size, Logged, lacksRoom};
 ghost use Rattle.listing.specs.Calls.{listedFrom};
 ghost use Rattle.definition.specs.Listings.{itemsOf, itemBytes, listingOf, listingCall};
 
@@ -32,28 +31,33 @@ pub fn put_listing(out: &mut [u8], x: Record) -> usize
 // No listing is longer.
 const MOST_LISTED: usize = 34;
 
-// Whether a listing has room. Where room for the longest is left, it has; where less is left, a pass over a scratch finds how long it is.
-fn has_room(x: Record, room: usize) -> bool
-    ensures { λ r. ⌜ r ≡ leb (length (listingOf x)) room ⌝ }
+// How long a listing is: it is written aside, and counted.
+fn listing_length(x: Record) -> usize
+    ensures { λ n. ⌜ n ≡ length (listingOf x) ⌝ }
 {
-    if MOST_LISTED <= room {
-        return true;
+    let mut aside = [0u8; MOST_LISTED];
+    put_listing(&mut aside, x)
+}
+
+// The listing has no room from a start to the buffer's end. How long it is matters only where the longest has none.
+fn is_full(x: Record, start: usize, end: usize) -> bool
+    ensures { λ r. ⌜ r ≡ lacksRoom (length (listingOf x)) start end ⌝ }
+{
+    if laws::lacks_room(MOST_LISTED, start, end) {
+        laws::lacks_room(listing_length(x), start, end)
+    } else {
+        false
     }
-    let mut scratch = [0u8; MOST_LISTED];
-    put_listing(&mut scratch, x) <= room
 }
 
 // The listing of a record after fix-ups, from the start on, or refusal 7.
 fn list_record(x: Record, out: &mut [u8], start: usize) -> Answer
     ensures { λ r. ⌜ (r, now (out .exit)) ≡ listedFrom x (now (out .entry)) start ⌝ }
 {
-    if out.len() < start {
-        return Answer::Refused(7);
-    }
-    if has_room(x, out.len() - start) {
-        Answer::Done(put_listing(&mut out[start..], x))
+    if is_full(x, start, out.len()) {
+        Answer::Short(listing_length(x))
     } else {
-        Answer::Refused(7)
+        Answer::Done(put_listing(&mut out[start..], x))
     }
 }
 

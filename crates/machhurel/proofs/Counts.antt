@@ -22,7 +22,7 @@ Fits o = countOf (o .0) < 2 ^ 32
 outcome-fits : (number opcode : ℕ) (bytes buffer : List ℕ) (start : ℕ) → length bytes < 2 ^ 32 → Fits (outcome number opcode bytes buffer start)
 unfolding outcome
 outcome-fits number opcode bytes buffer start h =
-    either Fits (eqb number 0) _ _ (λ t. h) (λ t. either Fits (eqb number 4) _ _ (λ u. omega arith) (λ u. omega arith))
+    either Fits (eqb number 0) _ _ (λ t. h) (λ t. either Fits (eqb number 4) _ _ (λ u. omega arith) (λ u. either Fits (eqb number 7) _ _ (λ v. h) (λ v. omega arith)))
 
 pub listing-fits : (b buffer : List ℕ) (start : ℕ) {a : Answer} {out : List ℕ} → (a, out) ≡ listingCall b buffer start → countOf a < 2 ^ 32
 unfolding listingCall

@@ -18,7 +18,7 @@ use Rattle.definition.specs.declared.Reading.the-variants.{Found, Bad, Finished
 abbrev at : ℕ → ℕ → ℕ
 at bit v = v * 2 ^ bit
 
--- visit, listing: 0-7 number, 8-23 the opcode after 4, 32-63 n; and the buffer beside it
+-- visit, listing: 0-7 number, 8-23 the opcode after 4, 32-63 the bytes written, or needed after 7; and the buffer beside it
 abbrev pub answerBits : Answer → ℕ
 answerBits a = numberOf a + at 8 (opcodeOf a) + at 32 (countOf a)
 

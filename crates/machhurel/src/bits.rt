@@ -16,6 +16,7 @@ pub fn answer_bits(a: Answer) -> u64
         Answer::Done(n) => (n as u64) * 0x1_0000_0000,
         Answer::Refused(number) => number as u64,
         Answer::Complex(opcode) => 4 + (opcode as u64) * 0x100,
+        Answer::Short(n) => 7 + (n as u64) * 0x1_0000_0000,
     }
 }
 

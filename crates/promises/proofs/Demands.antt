@@ -1,8 +1,7 @@
 -- Demand 3 over whole calls. Assumes nothing.
-use Prim.Native.Nat.{ℕ, _+_, _-_, _≤_}
-use native.Mathlib.Omega.{arith}
-use borrow.Author.Tests.{le-ltb}
-use mathlib.Core.Path.{_≡_, refl}
+use Prim.Native.Nat.{ℕ, _+_, _≤_}
+use borrow.Author.Tests.{eqb-true}
+use mathlib.Core.Path.{_≡_, refl, _∙_}
 use mathlib.Core.List.{List}
 use mathlib.Core.Bool.{Bool, true, false}
 use lib.ListN.{length}
@@ -10,23 +9,12 @@ use lib.Dec.{eqb}
 use Rattle.registers.specs.declared.RegisterFile.{RegisterFile}
 use Rattle.record.specs.Records.{recordOf}
 use Rattle.definition.specs.Steps.{stepsOf}
-use Rattle.definition.specs.Logs.{bytesOf}
-use Rattle.definition.specs.Refusals.{noRoom}
 use Rattle.definition.specs.Visits.{fixedRecord, logOf, refusalOf, outcome, visitBy}
 use Rattle.definition.specs.declared.Answer.the-variants.{Refused, Complex}
-use Rattle.definition.proofs.Bounds.{log-bytes}
 use Rattle.promises.specs.Refinement.{Extends, RefinesAll, AgreeOn}
 use Rattle.promises.specs.Calls.{by-number, by-opcode, Alike, refused, logged}
 use Rattle.promises.proofs.Refine.{steps-refine, steps-agree}
-
--- 177 bytes of room are enough for every record and file
-pub room-enough : (b : List ℕ) (f : RegisterFile) (p : List ℕ) (s : ℕ) → s + 177 ≤ length p → noRoom (length (bytesOf (logOf b f))) p s ≡ false
-unfolding noRoom logOf
-room-enough b f p s h =
-    simp (
-      le-ltb (length p) s (omega arith),
-      le-ltb (length p - s) (length (bytesOf (logOf b f))) (omega (arith, log-bytes f (fixedRecord b))),
-    )
+use Rattle.promises.proofs.Rooms.{room-enough, visit-has-room}
 
 -- the log of the second file refines that of the first
 logs-refine : (b : List ℕ) (f g : RegisterFile) → Extends f g → RefinesAll (logOf b f) (logOf b g)
@@ -50,13 +38,14 @@ module _ (bad : Bool) (b : List ℕ) (f g : RegisterFile) (p q : List ℕ) (s t 
       same-number : refusalOf bad b f p s ≡ refusalOf bad b g q t
       same-number = refuse-alike hp hq
 
-      by-test : (k : ℕ) (z u : Bool) → refusalOf bad b g q t ≡ k → eqb k 0 ≡ z → eqb k 4 ≡ u → Alike (visitBy bad b f p s) (visitBy bad b g q t) p q s t (logOf b f) (logOf b g)
-      by-test k true u e h i = logged (rw (same-number, e, h)) (rw (e, h)) (logs-refine b f g more)
-      by-test k false true e h i = refused (Complex (recordOf b .opcode)) by-opcode (rw (same-number, e, h, i)) (rw (e, h, i))
-      by-test k false false e h i = refused (Refused k) by-number (rw (same-number, e, h, i)) (rw (e, h, i))
+      by-test : (k : ℕ) (z u v : Bool) → refusalOf bad b g q t ≡ k → eqb k 0 ≡ z → eqb k 4 ≡ u → eqb k 7 ≡ v → Alike (visitBy bad b f p s) (visitBy bad b g q t) p q s t (logOf b f) (logOf b g)
+      by-test k true u v e h i j = logged (rw (same-number, e, h)) (rw (e, h)) (logs-refine b f g more)
+      by-test k false true v e h i j = refused (Complex (recordOf b .opcode)) by-opcode (rw (same-number, e, h, i)) (rw (e, h, i))
+      by-test k false false true e h i j = absurd (visit-has-room bad b g q t hq (e ∙ eqb-true k 7 j))
+      by-test k false false false e h i j = refused (Refused k) by-number (rw (same-number, e, h, i, j)) (rw (e, h, i, j))
 
       go : (k : ℕ) → refusalOf bad b g q t ≡ k → Alike (visitBy bad b f p s) (visitBy bad b g q t) p q s t (logOf b f) (logOf b g)
-      go k e = by-test k (eqb k 0) (eqb k 4) e refl refl
+      go k e = by-test k (eqb k 0) (eqb k 4) (eqb k 7) e refl refl refl
 
 pub by-agrees : (bad : Bool) (b : List ℕ) (f g : RegisterFile) (p : List ℕ) (s : ℕ) → AgreeOn f g (logOf b f) → visitBy bad b f p s ≡ visitBy bad b g p s
 unfolding visitBy refusalOf

@@ -1,5 +1,6 @@
 pub mod Refine
 pub mod Outcomes
+pub mod Rooms
 pub mod Demands
 pub mod Good
 pub mod Whole

@@ -18,7 +18,8 @@ use Rattle.definition.specs.Listings.{listingOf, listingRefusal, listingCall}
 use Rattle.definition.proofs.Bounds.{log-bytes, log-events}
 use Rattle.definition.proofs.ListingBound.{listing-bytes}
 use Rattle.promises.specs.Promises as promised
-use Rattle.promises.proofs.Demands.{room-enough, by-refines, by-agrees}
+use Rattle.promises.proofs.Demands.{by-refines, by-agrees}
+use Rattle.promises.proofs.Rooms.{visit-has-room, listing-has-room, visit-retried, listing-retried}
 use Rattle.promises.proofs.Outcomes.{number-is, refused-is}
 use Rattle.promises.proofs.Whole.{good-back, visit-written, visit-reads, visit-reads-inside, listing-written}
 use Rattle.promises.proofs.Unknown.{unknown-to, unknown-from}
@@ -50,43 +51,6 @@ log-has-few f x = log-events f x
 pub listing-is-short : promised.ListingBytes
 listing-is-short x = listing-bytes x
 
--- a table that ends in 7 gives another number where that last test fails
-visit-not-7 : (t1 t2 t3 t4 t5 t6 : Bool) → firstOf ((t1, 1) ∷ (t2, 2) ∷ (t3, 3) ∷ (t4, 4) ∷ (t5, 5) ∷ (t6, 6) ∷ (false, 7) ∷ []) ≡ 7 → ⊥
-unfolding firstOf
-visit-not-7 true t2 t3 t4 t5 t6 e = omega arith
-visit-not-7 false true t3 t4 t5 t6 e = omega arith
-visit-not-7 false false true t4 t5 t6 e = omega arith
-visit-not-7 false false false true t5 t6 e = omega arith
-visit-not-7 false false false false true t6 e = omega arith
-visit-not-7 false false false false false true e = omega arith
-visit-not-7 false false false false false false e = omega arith
-
-listing-not-7 : (t1 t2 t4 : Bool) → firstOf ((t1, 1) ∷ (t2, 2) ∷ (t4, 4) ∷ (false, 7) ∷ []) ≡ 7 → ⊥
-unfolding firstOf
-listing-not-7 true t2 t4 e = omega arith
-listing-not-7 false true t4 e = omega arith
-listing-not-7 false false true e = omega arith
-listing-not-7 false false false e = omega arith
-
-visit-has-room : (b f p : List ℕ) (s : ℕ) → s + 177 ≤ length p → refusalOf (not (isFile f)) b (fileOf f) p s ≡ 7 → ⊥
-unfolding refusalOf
-visit-has-room b f p s h e =
-    visit-not-7 (not (isRecord b)) (outside (recordOf b)) (not (isFile f)) (complex (fixedRecord b)) (nameless (fixedRecord b)) (sizeless (fixedRecord b))
-    (rw (room-enough b (fileOf f) p s h) at e)
-
-listing-room : (b p : List ℕ) (s : ℕ) → s + 34 ≤ length p → noRoom (length (listingOf (fixedRecord b))) p s ≡ false
-unfolding noRoom
-listing-room b p s h =
-    simp (
-      le-ltb (length p) s (omega arith),
-      le-ltb (length p - s) (length (listingOf (fixedRecord b))) (omega (arith, listing-bytes (fixedRecord b))),
-    )
-
-listing-has-room : (b p : List ℕ) (s : ℕ) → s + 34 ≤ length p → listingRefusal b p s ≡ 7 → ⊥
-unfolding listingRefusal
-listing-has-room b p s h e =
-    listing-not-7 (not (isRecord b)) (outside (recordOf b)) (complex (fixedRecord b)) (rw (listing-room b p s h) at e)
-
 pub first-refusal : promised.FirstRefusal
 unfolding visitBy listingCall
 first-refusal b f p s = (
@@ -96,7 +60,10 @@ first-refusal b f p s = (
 
 pub room-suffices : promised.RoomSuffices
 room-suffices b f p s =
-    ((λ h e. visit-has-room b f p s h (sym (first-refusal b f p s .0) ∙ e)), (λ h e. listing-has-room b p s h (sym (first-refusal b f p s .1) ∙ e)))
+    ((λ h e. visit-has-room (not (isFile f)) b (fileOf f) p s h (sym (first-refusal b f p s .0) ∙ e)), (λ h e. listing-has-room b p s h (sym (first-refusal b f p s .1) ∙ e)))
+
+pub retry-succeeds : promised.RetrySucceeds
+retry-succeeds b f p s n = (visit-retried (not (isFile f)) b (fileOf f) p s n, listing-retried b p s n)
 
 pub bounds-reached : promised.BoundsReached
 unfolding opened

@@ -7,12 +7,12 @@ use lib.ListN.{getD, set}
 use Rattle.definition.specs.Visits.{visitOf, countOf}
 use Rattle.definition.specs.declared.Answer.{Answer}
 use Rattle.definition.specs.declared.Answer.the-variants.{Done}
-use Rattle.promises.specs.Calls.{Refusal, by-number, by-opcode, Program}
+use Rattle.promises.specs.Calls.{Refusal, by-number, by-opcode, by-room, Program}
 use Rattle.promises.specs.Rows.{recordWith, fileKnowing, buffer}
 use Rattle.promises.specs.Bench.{P1, P1-log, P2, P2-file, P2-log}
 use Rattle.promises.specs.Promises.{Meets, atP1, atP2, NotRefusingAll, NotOneLog, NotUntouched, NotOperand0Alone, CountIsTheLength, NotOneCount, NotAllUnknown}
 use Rattle.promises.proofs.Opened.{opened}
-use Rattle.promises.proofs.Outcomes.{not-refused, not-complex}
+use Rattle.promises.proofs.Outcomes.{not-refused, not-complex, not-short}
 use Rattle.promises.proofs.Whole.{visit-count}
 
 -- what the definition gives at P1 and P2, at P2 under a file that knows nothing, and at P2 with its first operand alone
@@ -43,6 +43,7 @@ defined-first = refl
 no-refusal : (a : Answer) (n : ℕ) → Refusal a → a ≡ Done n → ⊥
 no-refusal a n (by-number {k = k}) e = not-refused n k (sym e)
 no-refusal a n (by-opcode {o = o}) e = not-complex n o (sym e)
+no-refusal a n (by-room {n = m}) e = not-short n m (sym e)
 
 -- equal buffers have equal bytes
 byte-at : (k : ℕ) (p q : List ℕ) → p ≡ q → getD p k 0 ≡ getD q k 0

@@ -32,7 +32,7 @@ use Rattle.definition.specs.Readings.{readAt}
 use Rattle.definition.specs.declared.PrivilegeAnswer.{PrivilegeAnswer}
 use Rattle.definition.specs.declared.PrivilegeAnswer.the-variants as level
 use Rattle.definition.specs.declared.Answer.{Answer}
-use Rattle.definition.specs.declared.Answer.the-variants.{Done, Refused, Complex}
+use Rattle.definition.specs.declared.Answer.the-variants.{Done, Refused, Complex, Short}
 use Rattle.definition.specs.declared.Event.{Event}
 use Rattle.definition.specs.declared.Event.the-variants.{RegisterRead, RegisterWrite, MemoryRead, MemoryWrite, UnknownRead, UnknownWrite}
 use Rattle.definition.specs.declared.Reading.{Reading}
@@ -64,14 +64,15 @@ listings =
     ∷ rowIn 0 0 (opcode 0x1234 ∷ behavior 0x20 ∷ specs (RegRRR ∷ []) ∷ []) [] (Complex 0x1234) []
     ∷ row (opcode 26 ∷ behavior 0x20 ∷ specs (RegMMM ∷ []) ∷ []) [] (Done 4) (0x46 ∷ 0 ∷ 2 ∷ 1 ∷ [])
     ∷ rowIn 7 3 (specs (RegRRR ∷ []) ∷ []) [] (Done 4) (0x46 ∷ 0 ∷ 1 ∷ 1 ∷ [])
-    ∷ rowIn 6 3 (specs (RegRRR ∷ []) ∷ []) [] (Refused 7) []
+    ∷ rowIn 6 3 (specs (RegRRR ∷ []) ∷ []) [] (Short 4) []
     ∷ rowIn 5 5 [] [] (Done 0) []
-    ∷ rowIn 5 6 [] [] (Refused 7) []
+    ∷ rowIn 5 6 [] [] (Short 0) []
+    ∷ rowIn 0 1 (opcode 1 ∷ behavior 0x18 ∷ specs (RegMMM ∷ []) ∷ regs 1 W 0 ∷ []) [] (Short 18) []
     -- the fullest listing fits in the most bytes that a listing has, and not in one less
     ∷ rowIn mostListed 0 fullest-fields [] (Done 34)
     (0x41 ∷ 3 ∷ 0x42 ∷ 0 ∷ 4 ∷ 1 ∷ 0x42 ∷ 0 ∷ 4 ∷ 2 ∷ 0x44 ∷ 0 ∷ 4 ∷ 0xF8 ∷ 0xFF ∷ 0xFF ∷ 0xFF ∷ 2
     ∷ 0x46 ∷ 0 ∷ 33 ∷ 3 ∷ 0x46 ∷ 1 ∷ 33 ∷ 3 ∷ 0x46 ∷ 2 ∷ 33 ∷ 3 ∷ 0x46 ∷ 3 ∷ 33 ∷ 3 ∷ [])
-    ∷ rowIn (mostListed - 1) 0 fullest-fields [] (Refused 7) []
+    ∷ rowIn (mostListed - 1) 0 fullest-fields [] (Short 34) []
     ∷ []
 
 -- The digest after fix-ups
@@ -229,7 +230,7 @@ abbrev pub numbersOf : Answer → ℕ × ℕ × ℕ
 numbersOf a = (numberOf a, opcodeOf a, countOf a)
 
 unfoldable pub answer-numbers : List (Answer × (ℕ × ℕ × ℕ))
-answer-numbers = (Done 5, (0, 0, 5)) ∷ (Refused 3, (3, 0, 0)) ∷ (Complex 9, (4, 9, 0)) ∷ []
+answer-numbers = (Done 5, (0, 0, 5)) ∷ (Refused 3, (3, 0, 0)) ∷ (Complex 9, (4, 9, 0)) ∷ (Short 6, (7, 0, 6)) ∷ []
 
 unfoldable pub reading-numbers : List (Reading × ℕ)
 reading-numbers = (Found (UnknownRead 1) 2, 0) ∷ (Bad 1, 1) ∷ (Bad 2, 2) ∷ (Finished, 255) ∷ []

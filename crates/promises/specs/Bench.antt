@@ -1,7 +1,7 @@
 -- The bench records P1 to P11 of document 01.
 use Prim.Native.Nat.{ℕ}
 use mathlib.Core.List.{List, [], _∷_}
-use Rattle.definition.specs.declared.Answer.the-variants.{Done, Refused, Complex}
+use Rattle.definition.specs.declared.Answer.the-variants.{Done, Refused, Complex, Short}
 use Rattle.promises.specs.Rows.{Patch, opcode, specs, regs, size, scale, disp, behavior, access, list, knows, Q, D, RegRRR, RegMMM, Deref, Disp, MemIndexScale, DispU32, Row, rowIn, row}
 
 abbrev pub P1 : List Patch
@@ -56,7 +56,7 @@ bench =
     ∷ row (opcode 28 ∷ specs (Disp ∷ []) ∷ size 0 ∷ []) [] (Refused 6) []
     -- room 32 passes for P2, 31 is refused 7
     ∷ rowIn 32 0 P2 P2-file (Done 32) P2-log
-    ∷ rowIn 31 0 P2 P2-file (Refused 7) []
+    ∷ rowIn 31 0 P2 P2-file (Short 32) []
     -- size 64 passes, 65 is refused 2
     ∷ row (specs (Deref ∷ []) ∷ size 64 ∷ []) [] (Done 5) (0x01 ∷ 0x00 ∷ 0x00 ∷ 0x05 ∷ 0x40 ∷ [])
     ∷ row (specs (Deref ∷ []) ∷ size 65 ∷ []) [] (Refused 2) []

@@ -3,7 +3,7 @@
 use Prim.Native.Nat.{_+_, _-_, _*_}
 use mathlib.Core.List.{List, [], _∷_}
 use Rattle.definition.specs.Limits.{mostBytes, mostEvents}
-use Rattle.definition.specs.declared.Answer.the-variants.{Done, Refused, Complex}
+use Rattle.definition.specs.declared.Answer.the-variants.{Done, Refused, Complex, Short}
 use Rattle.promises.specs.Rows.{put, long, opcode, count, specs, regs, size, scale, disp, imm, prefixes, mask, behavior, access, list, knows, Q, D, W, B, K, RFLAGS, Nothing, RegRRR, RegMMM, RegVex, Reg4, RegRRR-maskmerge, Deref, Deref-mask, Deref-rsi, Deref-edi, Disp, MemIndexScale, MemBaseIndexScale, MemBaseIndexScale-mask, MemBaseIndexScaleDisp, DispU64, DispU32, log, reads, writes, loads, stores, loads-unknown, stores-unknown, Row, rowIn, row}
 use Rattle.promises.specs.Bench.{P2, P2-file, P2-log}
 use Rattle.promises.specs.Fullest.{fullest-fields, fullest-known, fullest-log}
@@ -173,12 +173,16 @@ refusing =
     ∷ rowIn 0 1 (specs (Deref ∷ []) ∷ size 0 ∷ []) [] (Refused 6) []
     -- room exact and one short, from a start inside
     ∷ rowIn 35 3 P2 P2-file (Done 32) P2-log
-    ∷ rowIn 34 3 P2 P2-file (Refused 7) []
+    ∷ rowIn 34 3 P2 P2-file (Short 32) []
+    -- what is needed is the log's own length: from no room, from a start past the end, and after fix-ups
+    ∷ rowIn 0 0 P2 P2-file (Short 32) []
+    ∷ rowIn 5 6 P2 P2-file (Short 32) []
+    ∷ rowIn 14 0 (opcode 1 ∷ behavior 0x18 ∷ specs (RegMMM ∷ []) ∷ regs 1 D 3 ∷ []) [] (Short 15) []
     -- an empty log at the buffer's end, and past it
     ∷ rowIn 5 5 [] [] (Done 0) []
-    ∷ rowIn 5 6 [] [] (Refused 7) []
+    ∷ rowIn 5 6 [] [] (Short 0) []
     ∷ rowIn 0 0 [] [] (Done 0) []
     -- the fullest log fits in the most bytes that a log has, and not in one less; an event has 3 bytes, and 9 of these, of memory, 7 more
     ∷ rowIn mostBytes 0 fullest-fields fullest-known (Done (3 * mostEvents + 7 * 9)) fullest-log
-    ∷ rowIn (mostBytes - 1) 0 fullest-fields fullest-known (Refused 7) []
+    ∷ rowIn (mostBytes - 1) 0 fullest-fields fullest-known (Short (3 * mostEvents + 7 * 9)) []
     ∷ []

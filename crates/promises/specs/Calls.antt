@@ -1,5 +1,5 @@
 -- What two calls have in common, what a call changes, and what stands in a log.
-use Prim.Native.Nat.{ℕ, _+_, _^_, _<_}
+use Prim.Native.Nat.{ℕ, _+_, _^_, _≤_, _<_}
 use mathlib.Core.Path.{_≡_}
 use mathlib.Core.List.{List, [], _∷_}
 use lib.ListN.{length, take, drop}
@@ -7,7 +7,7 @@ use Rattle.laws.specs.Lending.{splice}
 use Rattle.definition.specs.Logs.{bytesOf}
 use Rattle.definition.specs.Readings.{readAt}
 use Rattle.definition.specs.declared.Answer.{Answer}
-use Rattle.definition.specs.declared.Answer.the-variants.{Done, Refused, Complex}
+use Rattle.definition.specs.declared.Answer.the-variants.{Done, Refused, Complex, Short}
 use Rattle.definition.specs.declared.Event.{Event}
 use Rattle.definition.specs.declared.Event.the-variants.{RegisterRead, RegisterWrite, MemoryRead, MemoryWrite, UnknownRead, UnknownWrite}
 use Rattle.definition.specs.declared.Reading.the-variants.{Found}
@@ -17,6 +17,15 @@ use Rattle.promises.specs.Refinement.{RefinesAll}
 pub data Refusal : Answer → Type 0 where
   by-number : {k : ℕ} → Refusal (Refused k)
   by-opcode : {o : ℕ} → Refusal (Complex o)
+  by-room : {n : ℕ} → Refusal (Short n)
+
+-- what a call answers over any buffer and start: with n bytes from the start on it writes n bytes; with fewer, or from a start past the
+-- end, it is refused 7, says n and leaves the buffer
+abbrev pub Retried : (List ℕ → ℕ → Answer × List ℕ) → ℕ → Type 0
+Retried call n =
+    (q : List ℕ) (t : ℕ)
+    → (t + n ≤ length q → call q t .0 ≡ Done n)
+    × (length q < t + n → call q t ≡ (Short n, q))
 
 -- Two outcomes, each an answer and a buffer: the one over the buffer p from s, whose events are ds, the other over q from t, whose
 -- events are es. Both refuse with the same answer and leave the buffers, or both write their events, and the second refine the first.

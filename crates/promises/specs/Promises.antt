@@ -31,11 +31,11 @@ use Rattle.definition.specs.Listings.{listingOf, listingRefusal, listingCall}
 use Rattle.definition.specs.Readings.{isEvent, readFront, readAt, Reads, readingNumber}
 use Rattle.definition.specs.declared.Address.{Address}
 use Rattle.definition.specs.declared.Answer.{Answer}
-use Rattle.definition.specs.declared.Answer.the-variants.{Done, Refused}
+use Rattle.definition.specs.declared.Answer.the-variants.{Done, Short}
 use Rattle.definition.specs.declared.Event.{Event}
 use Rattle.definition.specs.declared.Reading.the-variants.{Found}
 use Rattle.promises.specs.Refinement.{Extends, AgreeOn}
-use Rattle.promises.specs.Calls.{Refusal, Alike, Written, ReadsFrom, Addressable, Program}
+use Rattle.promises.specs.Calls.{Refusal, Retried, Alike, Written, ReadsFrom, Addressable, Program}
 use Rattle.promises.specs.Rows.{recordWith, fileKnowing, buffer, Visited, Listed, Table}
 use Rattle.promises.specs.Bench.{P1, P2, P2-file, bench}
 use Rattle.promises.specs.Beyond.{widening, masking, leas, ordering, addressing, malformed, refusing}
@@ -96,14 +96,22 @@ RoomSuffices =
     → (s + 177 ≤ length p → numberOf (visitOf b f p s .0) ≡ 7 → ⊥)
     × (s + 34 ≤ length p → numberOf (listingCall b p s .0) ≡ 7 → ⊥)
 
+-- A RETRY SUCCEEDS. Where visiting is refused 7 and says n, the same call over any buffer with n bytes from its start on is not refused
+-- and writes n bytes; with fewer it is refused 7 and says n again. n is within the bound. The same for listing.
+abbrev pub RetrySucceeds : Type 0
+RetrySucceeds =
+    (b f p : List ℕ) (s n : ℕ)
+    → (visitOf b f p s .0 ≡ Short n → Retried (visitOf b f) n × (n ≤ 177))
+    × (listingCall b p s .0 ≡ Short n → Retried (listingCall b) n × (n ≤ 34))
+
 -- Each bound is reached, by one record: a visit that writes 177 bytes of 38 events, a listing of 34 bytes; one byte less is refused.
 abbrev pub BoundsReached : Type 0
 BoundsReached =
     (visitOf fullest fullest-file (buffer 177) 0 .0 ≡ Done 177)
     × (length (logOf fullest (fileOf fullest-file)) ≡ 38)
     × (listingCall fullest (buffer 34) 0 .0 ≡ Done 34)
-    × (visitOf fullest fullest-file (buffer 176) 0 ≡ (Refused 7, buffer 176))
-    × (listingCall fullest (buffer 33) 0 ≡ (Refused 7, buffer 33))
+    × (visitOf fullest fullest-file (buffer 176) 0 ≡ (Short 177, buffer 176))
+    × (listingCall fullest (buffer 33) 0 ≡ (Short 34, buffer 33))
 
 -- ONE OUTCOME. Any two outcomes that a call's contract allows are equal: answer, count and every byte lent. The calls over bytes:
 abbrev pub EveryCallDetermined : Type 0

@@ -18,7 +18,7 @@ use Rattle.definition.specs.Logs.{bytesOf}
 use Rattle.definition.specs.Refusals.{nameless, sizeless, noRoom}
 use Rattle.definition.specs.Visits.{logOf, fixedRecord, refusalOf, outcome, visitBy}
 use Rattle.definition.specs.declared.Answer.the-variants.{Refused}
-use Rattle.definition.proofs.Outcomes.{by-record, past-record, never-complex, refused}
+use Rattle.definition.proofs.Outcomes.{by-record, past-record, bare-record, refused}
 use Rattle.visiting.specs.Records.{logBytes, firstRefusal, refusalIn, visitRecord}
 
 module _ (b : List ℕ) (f : RegisterFile) (buffer : List ℕ) (start : ℕ) where
@@ -36,15 +36,14 @@ module _ (b : List ℕ) (f : RegisterFile) (buffer : List ℕ) (start : ℕ) whe
 
   record-refuses : (bad : Bool) → (recordRefusal b ≡ 0 → ⊥) → visitBy bad b f buffer start ≡ (Refused (recordRefusal b), buffer)
   unfolding visitBy refusalOf
-  record-refuses bad ne = refused (recordOf b .opcode) (bytesOf (logOf b f)) buffer start (by-record b (fromThree bad) ne) ne (never-complex b)
+  record-refuses bad ne = refused (recordOf b .opcode) (bytesOf (logOf b f)) buffer start (by-record b (fromThree bad) ne) (bare-record b ne)
 
   file-refuses : recordRefusal b ≡ 0 → visitBy true b f buffer start ≡ (Refused 3, buffer)
   unfolding visitBy refusalOf
   file-refuses z =
       refused (recordOf b .opcode) (bytesOf (logOf b f)) buffer start
       (past-record b (fromThree true) z ∙ first-here true 3 fromFour refl)
-      (λ e. omega arith)
-      (λ e. omega arith)
+      ((λ e. omega arith), (λ e. omega arith), (λ e. omega arith))
 
   both-pass : recordRefusal b ≡ 0 → visitBy false b f buffer start ≡ visitRecord (fixedRecord b) f buffer start
   unfolding visitBy refusalOf visitRecord refusalIn firstRefusal logBytes logOf noRoom fixedUp

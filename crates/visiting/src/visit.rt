@@ -6,9 +6,10 @@ use refusals::is_sizeless;
 use registers::RegisterFile;
 ghost use mathlib.Core.Path.{_≡_};
 ghost use lib.ListN.{length};
+ghost use Rattle.laws.specs.Lending.{lacksRoom};
 ghost use Rattle.registers.specs.Files.{fileWith};
 ghost use Rattle.definition.specs.Visits.{visitUnder, visitOf};
-ghost use Rattle.visiting.specs.Records.{logBytes, isFull, firstRefusal, refusalIn, visitRecord};
+ghost use Rattle.visiting.specs.Records.{logBytes, firstRefusal, refusalIn, visitRecord};
 
 // No log is longer.
 const MOST_BYTES: usize = 177;
@@ -23,16 +24,13 @@ fn log_length(x: Record, values: &[u64; 17], known: u32) -> usize
 
 // The log has no room from a start to the buffer's end. How long it is matters only where the longest has none.
 fn is_full(x: Record, values: &[u64; 17], known: u32, start: usize, end: usize) -> bool
-    ensures { λ r. ⌜ r ≡ isFull (length (logBytes x (fileWith (now (values .entry)) known))) start end ⌝ }
+    ensures { λ r. ⌜ r ≡ lacksRoom (length (logBytes x (fileWith (now (values .entry)) known))) start end ⌝ }
 {
-    if end < start {
-        return true;
+    if laws::lacks_room(MOST_BYTES, start, end) {
+        laws::lacks_room(log_length(x, values, known), start, end)
+    } else {
+        false
     }
-    let left = end - start;
-    if MOST_BYTES <= left {
-        return false;
-    }
-    left < log_length(x, values, known)
 }
 
 // The last four tests of the table, in its order.
@@ -63,6 +61,7 @@ fn visit_record(x: Record, values: &[u64; 17], known: u32, log: &mut [u8], start
     match number {
         0 => Answer::Done(steps::put_log(&mut log[start..], values, known, x)),
         4 => Answer::Complex(x.opcode),
+        7 => Answer::Short(log_length(x, values, known)),
         _ => Answer::Refused(number),
     }
 }

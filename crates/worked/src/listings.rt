@@ -64,8 +64,8 @@ fn room() {
     let listing =
         b"\x41\x03\x42\x00\x04\x01\x42\x00\x04\x02\x44\x00\x04\xF8\xFF\xFF\xFF\x02\x46\x00\x01\x00\x46\x01\x02\x01\x46\x02\x00\x02\x46\x03\x23\x03";
     row_in(b"34 in 34", longest(), 39, 5, 0x22_0000_0000, listing);
-    row_in(b"34 in 33", longest(), 38, 5, 7, b"");
-    row_in(b"34 past the end", longest(), 4, 5, 7, b"");
+    row_in(b"34 in 33", longest(), 38, 5, 0x22_0000_0007, b"");
+    row_in(b"34 past the end", longest(), 4, 5, 0x22_0000_0007, b"");
     row_in(b"none at the end", plain(), 5, 5, 0, b"");
     row_in(b"none past the end", plain(), 5, 6, 7, b"");
     let most = 18446744073709551615;

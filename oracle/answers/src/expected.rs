@@ -80,7 +80,7 @@ pub fn delivered(bytes: &Bytes, room: usize, start: usize) -> (u64, &[u8]) {
         Err(refusal) => (refusal.answer(), &[]),
         Ok(bytes) => match room.checked_sub(start) {
             Some(left) if left >= bytes.len() => ((bytes.len() as u64) << 32, bytes),
-            _ => (7, &[]),
+            _ => (7 | (bytes.len() as u64) << 32, &[]),
         },
     }
 }

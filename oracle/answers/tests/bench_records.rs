@@ -35,7 +35,7 @@ fn p2_and_p3() {
     let unknown = [2, 11, 0, 1, 0, 3, 5, 8, 1, 0, 3, 6, 8, 1, 0, 0];
     assert_eq!(log(p2.record, files::knowing(files::ALL_KNOWN & !8)), unknown);
     assert_eq!(expected::outcome(&Input::visit(&p2.record.0, &p2.file, 32, 0)).answer, 32 << 32);
-    assert_eq!(expected::outcome(&Input::visit(&p2.record.0, &p2.file, 31, 0)).answer, 7);
+    assert_eq!(expected::outcome(&Input::visit(&p2.record.0, &p2.file, 31, 0)).answer, 0x20_0000_0007);
 }
 
 #[test]

@@ -1,3 +1,4 @@
+-- `answer_bits` meets its contract: each part at its bit, and a count below two to the 32 keeps the number in its word. Assumes nothing.
 use native.Mathlib.Omega.{arith}
 use borrow.Author.Needs.{needs}
 use Rattle.machhurel.proofs.bits.answer_bits.Statement.{statement}
@@ -27,6 +28,15 @@ mul-result-2 c = search needs
 add-result : tie.Need-add-result
 add-result c = search needs
 
+enum-known-a-4 : tie.Need-enum-known-a-4
+enum-known-a-4 c = search needs
+
+mul-result-3 : tie.Need-mul-result-3
+mul-result-3 c = omega (arith, rw (c .before .a4 .given .1) at (c .before .before .before .pre))
+
+add-result-2 : tie.Need-add-result-2
+add-result-2 c = omega (arith, rw (c .before .a4 .given .1) at (c .before .before .before .pre))
+
 returns : tie.Need-returns
 returns c = rw (c .before .a .given .1) (omega arith)
 
@@ -35,6 +45,9 @@ returns-2 c = rw (c .before .a2 .given .1) (omega arith)
 
 returns-3 : tie.Need-returns-3
 returns-3 c = rw (c .before .a3 .given .1) (omega arith)
+
+returns-4 : tie.Need-returns-4
+returns-4 c = rw (c .before .a4 .given .1) (omega arith)
 
 pub answer-bits-spec : {M : Type 1} → statement M
 answer-bits-spec =
@@ -48,6 +61,10 @@ answer-bits-spec =
     cast-result-2
     mul-result-2
     add-result
+    enum-known-a-4
+    mul-result-3
+    add-result-2
     returns
     returns-2
-    returns-3)
+    returns-3
+    returns-4)

@@ -1,4 +1,4 @@
-use Rattle.visiting.proofs.Visits.{told, inside, fits, done, is-complex, is-refused}
+use Rattle.visiting.proofs.Visits.{told, inside, fits, done, is-complex, is-short, is-refused}
 use Rattle.visiting.specs.Records.{refusalIn}
 use mathlib.Core.Path.{_≡_}
 use denote.Ref.{now}
@@ -66,10 +66,18 @@ returns-2 c =
     let a = c .before .before .before .before .before .before .before .args in
     is-complex (a .x) (fileWith (now (a .values)) (a .known)) (now (a .log)) (a .start) (refusal (c .before)) (c .match .keys2)
 
+log-length-requires : tie.Need-log-length-requires
+log-length-requires c κs = search needs
+
 returns-3 : tie.Need-returns-3
 returns-3 c =
+    let a = c .before .before .before .before .before .before .before .before .args in
+    is-short (a .x) (fileWith (now (a .values)) (a .known)) (now (a .log)) (a .start) (refusal (c .before .before)) (c .before .match .keys3) (c .log-length .ensures)
+
+returns-4 : tie.Need-returns-4
+returns-4 c =
     let a = c .before .before .before .before .before .before .before .args in
-    is-refused (a .x) (fileWith (now (a .values)) (a .known)) (now (a .log)) (a .start) (refusal (c .before)) (c .match .rest .0 .1) (c .match .rest .1)
+    is-refused (a .x) (fileWith (now (a .values)) (a .known)) (now (a .log)) (a .start) (refusal (c .before)) (c .match .rest .0 .0 .1, c .match .rest .0 .1, c .match .rest .1)
 
 pub visit-record-spec : {M : Type 1} → statement M
 visit-record-spec =
@@ -84,7 +92,9 @@ visit-record-spec =
     part-put-log-start
     part-put-log-end
     put-log-requires
+    log-length-requires
     same-length
     returns
     returns-2
-    returns-3)
+    returns-3
+    returns-4)
