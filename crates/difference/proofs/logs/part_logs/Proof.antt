@@ -1,0 +1,75 @@
+use mathlib.Core.Path.{_∙_}
+use Rattle.difference.proofs.Compared.{first-refused, second-refused, compared}
+use borrow.Author.Needs.{needs}
+use Rattle.difference.proofs.logs.part_logs.Statement.{statement}
+use Rattle.difference.proofs.logs.part_logs.Tie as tie
+use Rattle.difference.proofs.logs.part_logs.Reads as reads
+use Rattle.difference.proofs.logs.part_logs.Lts as lts
+use Rattle.difference.proofs.logs.goes_on.Reads as goes-on-reads
+use Rattle.difference.proofs.logs.refused.Reads as refused-reads
+use Rattle.difference.proofs.walk.shared_end.Reads as shared-end-reads
+use Rattle.event.proofs.count_events.Reads as count-events-reads
+
+count-events-requires : tie.Need-count-events-requires
+count-events-requires c κs = search needs
+
+enum-told : tie.Need-enum-told
+enum-told c = search needs
+
+enum-told-2 : tie.Need-enum-told-2
+enum-told-2 c = search needs
+
+refused-requires : tie.Need-refused-requires
+refused-requires c κs = search needs
+
+returns : tie.Need-returns
+returns c = c .refused .ensures ∙ first-refused (c .before .before .before .before .before .before .args .first .now) (c .before .before .before .before .before .before .args .second .now) (c .before .before .before .count-events .ensures) (c .before .enum-told2 .given .1)
+
+count-events-requires-2 : tie.Need-count-events-requires-2
+count-events-requires-2 c κs = search needs
+
+enum-told-3 : tie.Need-enum-told-3
+enum-told-3 c = search needs
+
+enum-told-4 : tie.Need-enum-told-4
+enum-told-4 c = search needs
+
+refused-requires-2 : tie.Need-refused-requires-2
+refused-requires-2 c κs = search needs
+
+returns-2 : tie.Need-returns-2
+returns-2 c = c .refused2 .ensures
+    ∙ second-refused (c .before .before .before .before .before .before .before .before .before .args .first .now) (c .before .before .before .before .before .before .before .before .before .args .second .now) (c .before .before .before .before .before .before .count-events .ensures) (c .before .before .before .before .enum-told .given .1)
+    (c .before .before .before .count-events2 .ensures) (c .before .enum-told4 .given .1)
+
+shared-end-requires : tie.Need-shared-end-requires
+shared-end-requires c κs = search needs
+
+goes-on-requires : tie.Need-goes-on-requires
+goes-on-requires c κs = search needs
+
+goes-on-requires-2 : tie.Need-goes-on-requires-2
+goes-on-requires-2 c κs = search needs
+
+returns-3 : tie.Need-returns-3
+returns-3 c = compared (c .before .before .before .before .before .before .before .before .before .before .before .args .first .now) (c .before .before .before .before .before .before .before .before .before .before .before .args .second .now) (c .before .before .before .before .before .before .before .before .count-events .ensures) (c .before .before .before .before .before .before .enum-told .given .1)
+    (c .before .before .before .before .before .count-events2 .ensures) (c .before .before .before .enum-told3 .given .1) (c .before .before .shared-end .ensures .0) (c .before .goes-on .ensures) (c .goes-on2 .ensures)
+
+pub part-logs-spec : {M : Type 1} → statement M
+part-logs-spec =
+    tie.close
+    (tie.spec
+    count-events-requires
+    enum-told
+    enum-told-2
+    refused-requires
+    returns
+    count-events-requires-2
+    enum-told-3
+    enum-told-4
+    refused-requires-2
+    returns-2
+    shared-end-requires
+    goes-on-requires
+    goes-on-requires-2
+    returns-3)

@@ -1,0 +1,43 @@
+use Rattle.difference.specs.Partings.{sameEvent}
+use borrow.Author.Needs.{needs}
+use Rattle.difference.proofs.same.same_event.Statement.{statement}
+use Rattle.difference.proofs.same.same_event.Tie as tie
+use Rattle.difference.proofs.same.same_event.Reads as reads
+use Rattle.difference.proofs.same.same_event.Lts as lts
+use Rattle.difference.proofs.same.first_in.Reads as first-in-reads
+use Rattle.difference.proofs.same.kind_in.Reads as kind-in-reads
+use Rattle.difference.proofs.same.second_in.Reads as second-in-reads
+
+kind-in-requires : tie.Need-kind-in-requires
+kind-in-requires c κs = search needs
+
+kind-in-requires-2 : tie.Need-kind-in-requires-2
+kind-in-requires-2 c κs = search needs
+
+first-in-requires : tie.Need-first-in-requires
+first-in-requires c κs = search needs
+
+first-in-requires-2 : tie.Need-first-in-requires-2
+first-in-requires-2 c κs = search needs
+
+second-in-requires : tie.Need-second-in-requires
+second-in-requires c κs = search needs
+
+second-in-requires-2 : tie.Need-second-in-requires-2
+second-in-requires-2 c κs = search needs
+
+returns : tie.Need-returns
+unfolding sameEvent
+returns c = cc
+
+pub same-event-spec : {M : Type 1} → statement M
+same-event-spec =
+    tie.close
+    (tie.spec
+    kind-in-requires
+    kind-in-requires-2
+    first-in-requires
+    first-in-requires-2
+    second-in-requires
+    second-in-requires-2
+    returns)
