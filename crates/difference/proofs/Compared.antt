@@ -5,10 +5,11 @@ use borrow.Author.Tests.{lt-ltb, le-ltb, ltb-true, ltb-false}
 use mathlib.Core.Path.{_≡_, refl, sym, ap, ap₂, _∙_}
 use mathlib.Core.List.{List, [], _∷_, _++_}
 use mathlib.Core.Bool.{Bool, true, false, _||_}
-use lib.ListN.{length, take, drop, length-drop}
+use lib.ListN.{length, take, drop, length-drop, drop-of-length-le}
 use lib.Dec.{ltb}
 use denote.Enum.Declared.{tagOf, declared}
 use Rattle.laws.specs.Lending.{size}
+use Rattle.laws.proofs.Lending.{part, part-is}
 use Rattle.definition.specs.Logs.{eventBytes}
 use Rattle.definition.specs.Readings.{Reads, end, next}
 use Rattle.definition.specs.declared.Event.{Event}
@@ -20,7 +21,7 @@ use Rattle.event.proofs.Fronts.{holds}
 use Rattle.event.proofs.Wholes.{whole-reads}
 use Rattle.event.proofs.Cuts.{Cut, reads-cut}
 use Rattle.difference.specs.declared.logs.Parted.{Parted}
-use Rattle.difference.specs.Partings.{frontOf, leftOf, restOf, differ, partingAt, refused, partedBy, partedOf}
+use Rattle.difference.specs.Partings.{frontOf, leftOf, restOf, differ, partingAt, refused, partedBy, partedOf, partingOf}
 use Rattle.difference.proofs.Lists.{Split, split}
 
 -- something is left of a log exactly where something is left of its events
@@ -89,12 +90,11 @@ module _ (a b : List ℕ) {r : Counted} (first : r ≡ countedOf a) where
         by-both (all xs) (broken es j) p q d e i = absurd (not-both m j (sym h ∙ e))
         by-both (broken es j) w p q d e i = absurd (not-both n j (sym read ∙ d))
 
--- the part lies in the second log
-pub part-within : (a b : List ℕ) → partedOf a b .at ≤ length b
-unfolding partedOf partingAt
-part-within a b = by-both (wholeOf a) (wholeOf b) refl refl
-  where
-    by-both : (v w : Whole) → wholeOf a ≡ v → wholeOf b ≡ w → partedBy v w b .at ≤ length b
-    by-both (broken es k) w p q = omega arith
-    by-both (all xs) (broken es k) p q = omega arith
-    by-both (all xs) (all ys) p q = cut-second a b xs ys (whole-reads a xs .0 p) (whole-reads b ys .0 q) .within
+-- the tail that code hands back: from a place within the log, or nothing
+pub none-past : (l : List ℕ) (at : ℕ) → length l < at → part l (length l) ≡ drop at l
+none-past l at h =
+    part-is l (length l) ∙ drop-of-length-le l {i = length l} (omega arith) ∙ sym (drop-of-length-le l {i = at} (omega arith))
+
+pub tail-is : (a b : List ℕ) {p : Parted} → p ≡ partedOf a b → drop (p .at) b ≡ partingOf a b
+unfolding partingOf
+tail-is a b e = ap (λ (x : Parted). drop (x .at) b) e

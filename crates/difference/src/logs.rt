@@ -3,7 +3,7 @@ use crate::walk::shared_end;
 use event::Counted;
 ghost use mathlib.Core.Path.{_≡_};
 ghost use mathlib.Core.Bool.{_||_};
-ghost use lib.ListN.{length};
+ghost use lib.ListN.{length, drop};
 ghost use lib.Dec.{ltb};
 ghost use Rattle.event.specs.Counts.{countedNumber};
 ghost use Rattle.difference.specs.Partings.{refused, partedOf, partingOf};
@@ -39,8 +39,18 @@ pub fn part_logs(first: &[u8], second: &[u8]) -> Parted
 pub fn parting<'a, 'b>(first: &'a [u8], second: &'b [u8]) -> &'b [u8]
     ensures { λ r. ⌜ now r ≡ partingOf (now (first .entry)) (now (second .entry)) ⌝ }
 {
-    let at = part_logs(first, second).at;
-    &second[at..]
+    tail(second, part_logs(first, second))
+}
+
+// What stands from the place on, nothing where it lies past the end.
+pub fn tail(log: &[u8], parted: Parted) -> &[u8]
+    ensures { λ r. ⌜ now r ≡ drop (parted .at) (now (log .entry)) ⌝ }
+{
+    let at = parted.at;
+    if log.len() < at {
+        return &log[log.len()..];
+    }
+    &log[at..]
 }
 
 fn refused(read: Counted, second: &[u8]) -> Parted
