@@ -30,6 +30,7 @@
 #![warn(missing_docs)]
 
 mod calls;
+mod difference;
 mod event;
 pub mod ffi;
 mod refusal;
@@ -37,6 +38,7 @@ mod refusal;
 pub use calls::{
     digest, exceptions, listing, privilege, visit, Digest, Exceptions, PrivilegeLevel,
 };
+pub use difference::{difference, Difference};
 pub use event::{Event, Events, Register};
 pub use refusal::Refusal;
 

@@ -2,10 +2,11 @@
 ghost use mathlib.Core.Path.{_≡_};
 ghost use Prim.Native.Nat.{_^_, _<_};
 ghost use Rattle.definition.specs.Visits.{countOf};
-ghost use Rattle.machhurel.specs.Answers.{answerBits, digestBits, privilegeBits, exceptionBits};
+ghost use Rattle.machhurel.specs.Answers.{answerBits, digestBits, privilegeBits, exceptionBits, differenceBits};
 use access::InfoAnswer;
 use definition::Answer;
 use definition::PrivilegeAnswer;
+use difference::Parted;
 use digest::DigestAnswer;
 
 pub fn answer_bits(a: Answer) -> u64
@@ -44,4 +45,14 @@ pub fn exception_bits(a: InfoAnswer) -> u64
     let number = a.number as u64;
     let vectors = a.info.vectors as u64;
     number + vectors * 0x1_0000_0000
+}
+
+pub fn difference_bits(p: Parted) -> u64
+    ensures { λ r. ⌜ r ≡ differenceBits p ⌝ }
+{
+    let number = p.number as u64;
+    if p.differs {
+        return number + 0x100;
+    }
+    number
 }
