@@ -1,16 +1,13 @@
 -- Two logs: what is answered of them by how they read. Assumes nothing.
-use Prim.Native.Nat.{ℕ, _+_, _-_, _≤_, _<_}
+use Prim.Native.Nat.{ℕ, _<_}
 use native.Mathlib.Omega.{arith}
 use borrow.Author.Tests.{lt-ltb, le-ltb, ltb-true, ltb-false}
 use mathlib.Core.Path.{_≡_, refl, sym, ap, ap₂, _∙_}
-use mathlib.Core.List.{List, [], _∷_, _++_}
+use mathlib.Core.List.{List}
 use mathlib.Core.Bool.{Bool, true, false, _||_}
-use lib.ListN.{length, take, drop, length-drop, drop-of-length-le}
+use lib.ListN.{length, drop, length-drop, drop-of-length-le}
 use lib.Dec.{ltb}
-use denote.Enum.Declared.{tagOf, declared}
-use Rattle.laws.specs.Lending.{size}
 use Rattle.laws.proofs.Lending.{part, part-is}
-use Rattle.definition.specs.Logs.{eventBytes}
 use Rattle.definition.specs.Readings.{Reads, end, next}
 use Rattle.definition.specs.declared.Event.{Event}
 use Rattle.event.specs.Wholes.{Whole, all, broken, eventsIn, wholeOf}
@@ -22,7 +19,7 @@ use Rattle.event.proofs.Wholes.{whole-reads}
 use Rattle.event.proofs.Cuts.{Cut, reads-cut}
 use Rattle.difference.specs.declared.logs.Parted.{Parted}
 use Rattle.difference.specs.Partings.{frontOf, leftOf, restOf, differ, partingAt, refused, partedBy, partedOf, partingOf}
-use Rattle.difference.proofs.Lists.{Split, split}
+use Rattle.difference.proofs.Lists.{split}
 
 -- something is left of a log exactly where something is left of its events
 any-left : (l : List ℕ) (es : List Event) → Reads l es → ltb 0 (length l) ≡ ltb 0 (length es)

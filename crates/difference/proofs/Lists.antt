@@ -11,7 +11,7 @@ use Rattle.laws.proofs.Choice.{and-left, and-right}
 use Rattle.registers.specs.Banks.{reg}
 use Rattle.definition.specs.declared.Event.{Event}
 use Rattle.definition.specs.declared.Event.the-variants.{RegisterRead, RegisterWrite, MemoryRead, MemoryWrite, UnknownRead, UnknownWrite}
-use Rattle.difference.specs.Partings.{kindIn, firstIn, secondIn, sameEvent, frontOf, leftOf, restOf, differ}
+use Rattle.difference.specs.Partings.{kindIn, firstIn, secondIn, sameEvent, frontOf, leftOf, restOf}
 use Rattle.difference.specs.Promises.{Apart}
 
 -- an event from its kind and its numbers

@@ -1,11 +1,11 @@
 -- Every statement of specs/Promises.antt, proved.
-use Prim.Native.Nat.{ℕ, _≤_}
+use Prim.Native.Nat.{ℕ}
 use native.Mathlib.Omega.{arith}
 use mathlib.Core.Path.{_≡_, refl, sym, ap, _∙_}
-use mathlib.Core.Logic.{_↔_, _⊎_, ⊎-elim}
+use mathlib.Core.Logic.{⊎-elim}
 use mathlib.Core.List.{List, [], _∷_, _++_, append-nil}
-use mathlib.Core.Bool.{Bool, true, false}
-use lib.ListN.{length, getD, take, drop, length-drop, drop-of-length-le}
+use mathlib.Core.Bool.{Bool, false}
+use lib.ListN.{length, getD, drop, length-drop, drop-of-length-le}
 use lib.Dec.{ltb}
 use borrow.Author.Tests.{ltb-false}
 use Rattle.laws.specs.Words.{numberAt, little}
@@ -17,7 +17,6 @@ use Rattle.definition.specs.Logs.{eventBytes, bytesOf}
 use Rattle.definition.specs.Readings.{bodyOf, frontEvent, isEvent, readFront, Reads, end, next}
 use Rattle.definition.specs.declared.Event.{Event}
 use Rattle.definition.specs.declared.Event.the-variants.{MemoryRead}
-use Rattle.event.specs.Held.{Bytes}
 use Rattle.event.specs.Wholes.{Whole, all, broken, readFrom, wholeOf, Broken}
 use Rattle.event.proofs.Fronts.{holds, within}
 use Rattle.event.proofs.Wholes.{whole-reads, whole-broken, reads-whole, broken-whole}
@@ -25,7 +24,6 @@ use Rattle.event.proofs.Bytes.{reads-bytes}
 use Rattle.difference.specs.declared.logs.Parted.{Parted}
 use Rattle.difference.specs.Partings.{sameEvent, frontOf, leftOf, restOf, differ, partingAt, refused, partedBy, partedOf, partingOf}
 use Rattle.difference.specs.Promises as promised
-use Rattle.difference.specs.Promises.{Parting}
 use Rattle.difference.specs.Rows.{rows}
 use Rattle.difference.proofs.Lists.{no-cons, split}
 use Rattle.difference.proofs.Compared.{cut-first, cut-second}

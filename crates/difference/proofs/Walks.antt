@@ -1,13 +1,12 @@
 -- The walk over two logs: the place, and what the events from it on have in common. Assumes nothing.
-use Prim.Native.Nat.{ℕ, _+_, _≤_, _<_}
+use Prim.Native.Nat.{ℕ, _+_}
 use native.Mathlib.Omega.{arith}
-use mathlib.Core.Path.{_≡_, refl, sym, ap, ap₂, _∙_}
+use mathlib.Core.Path.{_≡_, refl, sym, ap, _∙_}
 use mathlib.Core.Logic.{⊎-elim, _⊎_}
-use mathlib.Core.Bool.{Bool, true, false, cond}
+use mathlib.Core.Bool.{true, false}
 use mathlib.Core.List.{List, [], _∷_}
 use lib.ListN.{length, drop}
 use denote.Enum.Declared.{tagOf, declared}
-use Rattle.laws.specs.Lending.{size}
 use Rattle.definition.proofs.Reading.{enum}
 use Rattle.definition.specs.Logs.{eventBytes}
 use Rattle.definition.specs.Readings.{readFront, readAt, placed}

@@ -1,15 +1,14 @@
 -- WHAT IS PROMISED of where two logs part, each statement after its sentence. proofs/Proved.antt proves them all; nothing is assumed.
-use Prim.Native.Nat.{ℕ, _≤_, _<_}
+use Prim.Native.Nat.{ℕ, _≤_}
 use mathlib.Core.Path.{_≡_}
 use mathlib.Core.Logic.{_↔_, _⊎_}
 use mathlib.Core.List.{List, [], _∷_, _++_, map}
-use mathlib.Core.Bool.{true, false}
+use mathlib.Core.Bool.{false}
 use lib.ListN.{length, take, drop}
 use Rattle.definition.specs.Readings.{Reads}
 use Rattle.definition.specs.declared.Event.{Event}
 use Rattle.event.specs.Held.{Bytes}
 use Rattle.event.specs.Wholes.{all, broken, wholeOf, Broken}
-use Rattle.difference.specs.declared.logs.Parted.{Parted}
 use Rattle.difference.specs.Partings.{frontOf, leftOf, restOf, refused, partedOf, partingOf}
 use Rattle.difference.specs.Rows.{rowOf, rows}
 

@@ -3,7 +3,7 @@ use Prim.Native.Nat.{ℕ, zero, suc, _+_, _*_, _≤_}
 use native.Mathlib.Omega.{arith}
 use mathlib.Core.Path.{_≡_, refl, sym, ap, ap₂, _∙_}
 use mathlib.Core.List.{List, [], _∷_, _++_}
-use lib.ListN.{length, getD, take, drop, length-append, length-take, take-append-drop, List·getD-append}
+use lib.ListN.{length, take, drop, length-append, length-take, take-append-drop, List·getD-append}
 use Rattle.laws.specs.Words.{numberAt}
 use Rattle.registers.specs.Banks.{reg}
 use Rattle.definition.specs.Readings.{bodyOf, frontEvent, readFront}

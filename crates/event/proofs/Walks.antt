@@ -4,7 +4,7 @@ use native.Mathlib.Omega.{arith}
 use native.Mathlib.Nat.{zero-add}
 use mathlib.Core.Path.{_≡_, refl, sym, ap, _∙_}
 use mathlib.Core.Logic.{⊎-elim, _⊎_}
-use mathlib.Core.List.{List, [], _∷_}
+use mathlib.Core.List.{List}
 use lib.ListN.{length, drop, length-drop}
 use lib.Seq.{drop-drop}
 use denote.Enum.Declared.{tagOf, declared}
@@ -16,7 +16,7 @@ use Rattle.definition.specs.Readings.{readFront, readAt, placed}
 use Rattle.event.specs.Wholes.{Whole, all, broken, inFront, onward, readFrom, wholeOf}
 use Rattle.event.specs.declared.walk.Counted.{Counted}
 use Rattle.event.specs.declared.walk.Counted.the-variants.{All, Refused}
-use Rattle.event.specs.Counts.{countIn, endOf, countedOf}
+use Rattle.event.specs.Counts.{countIn, endOf}
 use Rattle.event.proofs.Fronts.{Within, within, front-empty}
 
 -- the rest of a walk goes by what was read

@@ -43,19 +43,43 @@ fn early() {
     row(b"the first has no event", b"", &P2_LOG, DIFFERENT, 0);
     row(b"the first ends early", &P2_LOG[..6], &P2_LOG, DIFFERENT, 6);
     row(b"the second has no event", &P2_LOG, b"", DIFFERENT, 0);
-    row(b"the second ends early", &P2_LOG, &P2_LOG[..16], DIFFERENT, 16);
+    row(
+        b"the second ends early",
+        &P2_LOG,
+        &P2_LOG[..16],
+        DIFFERENT,
+        16,
+    );
 }
 
 // The part begins at the event that differs, whichever of its bytes does.
 fn contents() {
     row(b"unknown, then known", &P3_LOG, &P2_LOG, DIFFERENT, 6);
     row(b"known, then unknown", &P2_LOG, &P3_LOG, DIFFERENT, 6);
-    row(b"another address", &changed(14, 0x80), &P2_LOG, DIFFERENT, 6);
+    row(
+        b"another address",
+        &changed(14, 0x80),
+        &P2_LOG,
+        DIFFERENT,
+        6,
+    );
     row(b"another size", &P2_LOG, &changed(28, 4), DIFFERENT, 19);
-    row(b"a load for a store", &P2_LOG, &changed(19, 3), DIFFERENT, 19);
+    row(
+        b"a load for a store",
+        &P2_LOG,
+        &changed(19, 3),
+        DIFFERENT,
+        19,
+    );
     row(b"another bank", &P2_LOG, &changed(30, 1), DIFFERENT, 29);
     row(b"another number", &changed(31, 1), &P2_LOG, DIFFERENT, 29);
-    row(b"a write for a read", &P2_LOG, &changed(29, 2), DIFFERENT, 29);
+    row(
+        b"a write for a read",
+        &P2_LOG,
+        &changed(29, 2),
+        DIFFERENT,
+        29,
+    );
 }
 
 fn refused() {

@@ -1,14 +1,9 @@
+-- By the counts of the two logs: refused, or compared. Assumes nothing.
 use mathlib.Core.Path.{_∙_}
 use Rattle.difference.proofs.Compared.{first-refused, second-refused, compared}
 use borrow.Author.Needs.{needs}
 use Rattle.difference.proofs.logs.part_logs.Statement.{statement}
 use Rattle.difference.proofs.logs.part_logs.Tie as tie
-use Rattle.difference.proofs.logs.part_logs.Reads as reads
-use Rattle.difference.proofs.logs.part_logs.Lts as lts
-use Rattle.difference.proofs.logs.goes_on.Reads as goes-on-reads
-use Rattle.difference.proofs.logs.refused.Reads as refused-reads
-use Rattle.difference.proofs.walk.shared_end.Reads as shared-end-reads
-use Rattle.event.proofs.count_events.Reads as count-events-reads
 
 count-events-requires : tie.Need-count-events-requires
 count-events-requires c κs = search needs

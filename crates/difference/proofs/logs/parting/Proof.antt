@@ -1,12 +1,9 @@
+-- The tail from the place that was found. Assumes nothing.
 use mathlib.Core.Path.{_∙_}
 use Rattle.difference.proofs.Compared.{tail-is}
 use borrow.Author.Needs.{needs}
 use Rattle.difference.proofs.logs.parting.Statement.{statement}
 use Rattle.difference.proofs.logs.parting.Tie as tie
-use Rattle.difference.proofs.logs.parting.Reads as reads
-use Rattle.difference.proofs.logs.parting.Lts as lts
-use Rattle.difference.proofs.logs.part_logs.Reads as part-logs-reads
-use Rattle.difference.proofs.logs.tail.Reads as tail-reads
 
 part-logs-requires : tie.Need-part-logs-requires
 part-logs-requires c κs = search needs

@@ -1,10 +1,9 @@
+-- Nothing past the end, or the part from the place on. Assumes nothing.
 use Rattle.difference.proofs.Compared.{none-past}
 use Rattle.laws.proofs.Lending.{part-is}
 use borrow.Author.Needs.{needs}
 use Rattle.difference.proofs.logs.tail.Statement.{statement}
 use Rattle.difference.proofs.logs.tail.Tie as tie
-use Rattle.difference.proofs.logs.tail.Reads as reads
-use Rattle.difference.proofs.logs.tail.Lts as lts
 
 sub-result : tie.Need-sub-result
 sub-result c = search needs

@@ -1,12 +1,8 @@
+-- The three tests, each by what the two numbers are. Assumes nothing.
 use Rattle.difference.specs.Partings.{sameEvent}
 use borrow.Author.Needs.{needs}
 use Rattle.difference.proofs.same.same_event.Statement.{statement}
 use Rattle.difference.proofs.same.same_event.Tie as tie
-use Rattle.difference.proofs.same.same_event.Reads as reads
-use Rattle.difference.proofs.same.same_event.Lts as lts
-use Rattle.difference.proofs.same.first_in.Reads as first-in-reads
-use Rattle.difference.proofs.same.kind_in.Reads as kind-in-reads
-use Rattle.difference.proofs.same.second_in.Reads as second-in-reads
 
 kind-in-requires : tie.Need-kind-in-requires
 kind-in-requires c κs = search needs

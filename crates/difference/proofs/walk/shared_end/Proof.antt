@@ -29,9 +29,12 @@ read-event-requires c κs = tt
 enum-known-d : tie.Need-enum-known-d Inv-loop μ-loop
 enum-known-d c = search needs
 
+-- the first log has no event there
 returns : tie.Need-returns Inv-loop μ-loop
-returns c = let l = c .before .before .loop in
-    (sym (l .inv .1 ∙ first-stops (c .before .before .before .before .before .args .first .now) (c .before .before .before .before .before .args .second .now) (l .at) _ (c .before .read-event .ensures) (c .match .keys2)), l .inv .0)
+returns c =
+    let l = c .before .before in
+    let s = l .before .before .before in
+    (sym (l .loop .inv .1 ∙ first-stops (s .args .first .now) (s .args .second .now) (l .loop .at) _ (c .before .read-event .ensures) (c .match .keys2)), l .loop .inv .0)
 
 read-event-requires-2 : tie.Need-read-event-requires-2 Inv-loop μ-loop
 read-event-requires-2 c κs = tt
@@ -39,43 +42,65 @@ read-event-requires-2 c κs = tt
 enum-known-e : tie.Need-enum-known-e Inv-loop μ-loop
 enum-known-e c = search needs
 
+-- the second log has none
 returns-2 : tie.Need-returns-2 Inv-loop μ-loop
-returns-2 c = let l = c .before .before .before .before .before .before .loop in (
-      sym (l .inv .1 ∙ second-stops (c .before .before .before .before .before .before .before .before .before .args .first .now) (c .before .before .before .before .before .before .before .before .before .args .second .now) (l .at) _
-          (sym (c .before .before .before .before .before .read-event .ensures) ∙ c .before .before .before .d .given .1) _ (c .before .read-event2 .ensures) (c .match2 .keys2)),
-      l .inv .0,
+returns-2 c =
+    let d = c .before .before .before in
+    let r = d .before .before in
+    let l = r .before in
+    let s = l .before .before .before in
+    let first = sym (r .read-event .ensures) ∙ d .d .given .1 in (
+      sym (l .loop .inv .1 ∙ second-stops (s .args .first .now) (s .args .second .now) (l .loop .at) _ first _ (c .before .read-event2 .ensures) (c .match2 .keys2)),
+      l .loop .inv .0,
     )
 
 same-event-requires : tie.Need-same-event-requires Inv-loop μ-loop
 same-event-requires c κs = tt
 
--- the event of the second log ends further on, within it
+-- an event of each log was read, and they are the same: that of the second ends further on, within it
 found :
-    (c : tie.Then1 Inv-loop μ-loop)
-    → readAt (c .before .before .before .before .before .before .before .before .before .before .before .before .before .args .second .now) (c .before .before .before .before .before .before .before .before .before .before .loop .at) ≡ Found (c .before .before .before .e .given .0 .0) (c .before .before .before .e .given .0 .1 .0)
-found c = sym (c .before .before .before .before .before .read-event2 .ensures) ∙ c .before .before .before .e .given .1
+    (c : tie.Then1 Inv-loop μ-loop) →
+    let e = c .before .before .before in
+    let l = e .before .before .before .before .before .before .before in
+    let s = l .before .before .before in readAt (s .args .second .now) (l .loop .at) ≡ Found (e .e .given .0 .0) (e .e .given .0 .1 .0)
+found c = let e = c .before .before .before in sym (e .before .before .read-event2 .ensures) ∙ e .e .given .1
 
 further :
-    (c : tie.Then1 Inv-loop μ-loop)
-    → (c .before .before .before .before .before .before .before .before .before .before .loop .at < c .before .before .before .e .given .0 .1 .0) × (c .before .before .before .e .given .0 .1 .0 ≤ length (c .before .before .before .before .before .before .before .before .before .before .before .before .before .args .second .now))
-further c = let b = c .before .before .before .before .before .before .before .before .before .before .before .before .before .args .second .now in let at = c .before .before .before .before .before .before .before .before .before .before .loop .at in subst (Moves b at) (found c) (goes-on b at)
+    (c : tie.Then1 Inv-loop μ-loop) →
+    let e = c .before .before .before in
+    let l = e .before .before .before .before .before .before .before in
+    let s = l .before .before .before in (l .loop .at < e .e .given .0 .1 .0) × (e .e .given .0 .1 .0 ≤ length (s .args .second .now))
+further c =
+    let l = c .before .before .before .before .before .before .before .before .before .before in
+    let s = l .before .before .before in
+    subst (Moves (s .args .second .now) (l .loop .at)) (found c) (goes-on (s .args .second .now) (l .loop .at))
 
 loop-less : tie.Need-loop-less Inv-loop μ-loop
 loop-less c = let m = further c in omega arith
 
 loop-again : tie.Need-loop-again Inv-loop μ-loop
-loop-again c = let l = c .before .before .before .before .before .before .before .before .before .before .loop in (
+loop-again c =
+    let d = c .before .before .before .before .before .before .before in
+    let r = d .before .before in
+    let l = r .before in
+    let s = l .before .before .before in
+    let first = sym (r .read-event .ensures) ∙ d .d .given .1 in (
       further c .1,
-      l .inv .1 ∙ both (c .before .before .before .before .before .before .before .before .before .before .before .before .before .args .first .now) (c .before .before .before .before .before .before .before .before .before .before .before .before .before .args .second .now) (l .at) _
-          (sym (c .before .before .before .before .before .before .before .before .before .read-event .ensures) ∙ c .before .before .before .before .before .before .before .d .given .1) _ (found c) (sym (c .before .same-event .ensures) ∙ c .if1 .taken),
+      l .loop .inv .1 ∙ both (s .args .first .now) (s .args .second .now) (l .loop .at) _ first _ (found c) (sym (c .before .same-event .ensures) ∙ c .if1 .taken),
     )
 
+-- they differ
 returns-3 : tie.Need-returns-3 Inv-loop μ-loop
-returns-3 c = let l = c .before .before .before .before .before .before .before .before .before .before .loop in (
-      sym (l .inv .1 ∙ parts (c .before .before .before .before .before .before .before .before .before .before .before .before .before .args .first .now) (c .before .before .before .before .before .before .before .before .before .before .before .before .before .args .second .now) (l .at) _
-          (sym (c .before .before .before .before .before .before .before .before .before .read-event .ensures) ∙ c .before .before .before .before .before .before .before .d .given .1) _ (sym (c .before .before .before .before .before .read-event2 .ensures) ∙ c .before .before .before .e .given .1)
-          (sym (c .before .same-event .ensures) ∙ c .if1 .left)),
-      l .inv .0,
+returns-3 c =
+    let e = c .before .before .before in
+    let d = e .before .before .before .before in
+    let r = d .before .before in
+    let l = r .before in
+    let s = l .before .before .before in
+    let first = sym (r .read-event .ensures) ∙ d .d .given .1 in
+    let second = sym (e .before .before .read-event2 .ensures) ∙ e .e .given .1 in (
+      sym (l .loop .inv .1 ∙ parts (s .args .first .now) (s .args .second .now) (l .loop .at) _ first _ second (sym (c .before .same-event .ensures) ∙ c .if1 .left)),
+      l .loop .inv .0,
     )
 
 pub shared-end-spec : {M : Type 1} → statement M

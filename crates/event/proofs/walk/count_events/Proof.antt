@@ -1,5 +1,5 @@
 -- The invariant: the whole count is n and the events from the place on. Each event ends further on, so the walk does. Assumes nothing.
-use Prim.Native.Nat.{_+_, _-_, _≤_, _<_, zero-le}
+use Prim.Native.Nat.{_-_, _≤_, _<_, zero-le}
 use native.Mathlib.Omega.{arith}
 use mathlib.Core.Path.{_≡_, sym, ap, _∙_, subst}
 use lib.ListN.{length}

@@ -2,8 +2,6 @@ use native.Mathlib.Omega.{arith}
 use borrow.Author.Needs.{needs}
 use Rattle.machhurel.proofs.bits.difference_bits.Statement.{statement}
 use Rattle.machhurel.proofs.bits.difference_bits.Tie as tie
-use Rattle.machhurel.proofs.bits.difference_bits.Reads as reads
-use Rattle.machhurel.proofs.bits.difference_bits.Lts as lts
 
 cast-number : tie.Need-cast-number
 cast-number c = search needs

@@ -4,10 +4,6 @@ use Rattle.difference.specs.declared.logs.Parted.{Parted}
 use borrow.Author.Needs.{needs}
 use Rattle.machhurel.proofs.calls.machhurel_difference.Statement.{statement}
 use Rattle.machhurel.proofs.calls.machhurel_difference.Tie as tie
-use Rattle.machhurel.proofs.calls.machhurel_difference.Reads as reads
-use Rattle.machhurel.proofs.calls.machhurel_difference.Lts as lts
-use Rattle.difference.proofs.part_logs.Reads as part-logs-reads
-use Rattle.machhurel.proofs.bits.difference_bits.Reads as difference-bits-reads
 
 part-logs-requires : tie.Need-part-logs-requires
 part-logs-requires c κs = search needs
