@@ -95,12 +95,14 @@ uint64_t machhurel_exceptions(const uint8_t *record, size_t record_len);
 uint64_t machhurel_event(const uint8_t *log, size_t log_len, size_t at);
 
 /*
- * Where two logs part. Both are read whole first: refuses 1, 2 as the first event that does not read is refused, the first log's number if
- * both. Otherwise MACHHUREL_DIFFERS says whether the logs differ, which is whether their bytes do. *at is where the part of the second log
- * begins: at its first event that the first log does not have there. That part, second[*at..], is empty where the logs are equal, where the
- * second ends early and after a refusal: then *at is second_len. An address that is known in one log and unknown in the other differs.
+ * Where two logs part. Both are read whole first: refuses 1, 2 as the first event that does not read is refused, the
+ * first log's number if both. Otherwise MACHHUREL_DIFFERS says whether the logs differ, which is whether their bytes do.
+ * *at is where the part of the second log begins: at its first event that the first log does not have there. The part
+ * is second[*at..]. It is empty, and *at is second_len, where the logs are equal, where the second ends early and after
+ * a refusal. An address that is known in one log and unknown in the other differs.
  */
-uint64_t machhurel_difference(const uint8_t *first, size_t first_len, const uint8_t *second, size_t second_len, uint64_t *at);
+uint64_t machhurel_difference(const uint8_t *first, size_t first_len, const uint8_t *second, size_t second_len,
+                              uint64_t *at);
 
 #ifdef __cplusplus
 }

@@ -21,8 +21,8 @@ impl<'b> Difference<'b> {
     }
 }
 
-/// Where the second log parts from the first. Both are read whole before they are compared; the refusal is the first log's if both are
-/// refused.
+/// Where the second log parts from the first. Both are read whole before they are compared; the refusal is the first
+/// log's if both are refused.
 ///
 /// ```
 /// use machhurel::{difference, Difference, Event, Events, Refusal};

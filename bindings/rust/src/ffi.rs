@@ -1,6 +1,7 @@
 //! The C interface itself, for callers that want the bits of an answer: include/machhurel.h says which bits hold what.
 //!
-//! Each pointer and length must be those of one slice, and a pointer alone that of one number; that is all that a call asks.
+//! Each pointer and length must be those of one slice, and a pointer alone that of one number; that is all that a call
+//! asks.
 #![allow(missing_docs)]
 
 extern "C" {

@@ -1,4 +1,5 @@
-//! Where two logs part, judged by a second reading of the bytes: this file parses logs by itself, from the layout of events alone.
+//! Where two logs part, judged by a second reading of the bytes: this file parses logs by itself, from the layout of
+//! events alone.
 use machhurel::{difference, ffi, Difference, Event, Events, Register};
 
 /// A small generator with a fixed seed: xorshift.
@@ -216,6 +217,8 @@ fn one_record_under_two_files() {
         log[..n].to_vec()
     };
     let (unknown, known) = (visited(0), visited(1 << 3));
+    assert_eq!(unknown, [1, 0, 3, 6, 8]);
+    assert_eq!(known, [1, 0, 3, 4, 0x08, 0x10, 0, 0, 0, 0, 0, 0, 8]);
     let parted = difference(&unknown, &known).expect("both read whole");
     let rbx = Register { bank: 0, number: 3 };
     assert_eq!(
