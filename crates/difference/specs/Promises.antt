@@ -1,4 +1,5 @@
--- WHAT IS PROMISED of where two logs part, each statement after its sentence. proofs/Proved.antt proves them all; nothing is assumed.
+-- WHAT IS PROMISED of where two logs part, each statement after its sentence. proofs/Proved.antt proves them all;
+-- nothing is assumed.
 use Prim.Native.Nat.{ℕ, _≤_}
 use mathlib.Core.Path.{_≡_}
 use mathlib.Core.Logic.{_↔_, _⊎_}
@@ -69,8 +70,8 @@ SameLog =
     (a : List ℕ) (xs : List Event) → Reads a xs
     → (partedOf a a ≡ record { number = 0; differs = false; at = length a }) × (partingOf a a ≡ [])
 
--- BROKEN LOGS. A log that does not read whole is refused as the reader refuses it, the first log's number if both; the sign is 0 and the
--- part is empty. A log that reads whole is never refused.
+-- BROKEN LOGS. A log that does not read whole is refused as the reader refuses it, the first log's number if both; the
+-- sign is 0 and the part is empty. A log that reads whole is never refused.
 abbrev pub BrokenLogs : Type 0
 BrokenLogs =
     (a b : List ℕ) (es xs : List Event) (k : ℕ)

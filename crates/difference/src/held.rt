@@ -1,5 +1,5 @@
-// Number, sign and part in one struct. The borrow checker covers no function over a struct that holds a reference: the two here are
-// proved by hand, so they leave all work to covered functions.
+// Number, sign and part in one struct. The borrow checker covers no function over a struct that holds a reference: the
+// two here are proved by hand, so they leave all work to covered functions.
 use crate::logs::Parted;
 use crate::logs::part_logs;
 use crate::logs::tail;

@@ -7,7 +7,8 @@ ghost use lib.ListN.{length};
 ghost use Rattle.event.specs.Wholes.{eventsIn, wholeOf};
 ghost use Rattle.difference.specs.Partings.{partingAt};
 
-// Where the events end that both logs begin with, as far as both read. Equal events are equally long, so one place serves both logs.
+// Where the events end that both logs begin with, as far as both read. Equal events are equally long, so one place
+// serves both logs.
 pub fn shared_end(first: &[u8], second: &[u8]) -> usize
     ensures { λ r. ⌜ (r ≡ partingAt (eventsIn (wholeOf (now (first .entry)))) (eventsIn (wholeOf (now (second .entry)))))
         × (r ≤ length (now (second .entry))) ⌝ }

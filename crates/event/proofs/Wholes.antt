@@ -1,4 +1,5 @@
--- Reading a log whole, as a function, is `Reads`; and it is broken where a front reads and what follows is refused. Assumes nothing.
+-- Reading a log whole, as a function, is `Reads`; and it is broken where a front reads and what follows is refused.
+-- Assumes nothing.
 use Prim.Native.Nat.{ℕ, zero, suc, _≤_, _<_}
 use native.Mathlib.Omega.{arith}
 use mathlib.Core.Path.{_≡_, refl, sym, ap, _∙_}

@@ -35,7 +35,8 @@ readFrom (suc fuel) l = onward (readFront l) (λ n. readFrom fuel (drop n l))
 unfoldable pub wholeOf : List ℕ → Whole
 wholeOf l = readFrom (length l) l
 
--- a log is broken: some front of it reads whole, as these events, and what stands behind them is refused with this number
+-- a log is broken: some front of it reads whole, as these events, and what stands behind them is refused with this
+-- number
 pub record Broken (l : List ℕ) (es : List Event) (k : ℕ) : Type 0 where
   pub front : List ℕ
   pub rest : List ℕ

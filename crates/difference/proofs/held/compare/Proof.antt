@@ -1,6 +1,6 @@
--- A walk of the code by hand: three calls, of which the proof knows that each meets its contract. Slices and the struct of numbers are
--- Copy: what they own is had anew for each call. Both lifetimes' tokens go to the first call; the second's alone to the others. Assumes
--- nothing.
+-- A walk of the code by hand: three calls, of which the proof knows that each meets its contract. Slices and the
+-- struct of numbers are Copy: what they own is had anew for each call. Both lifetimes' tokens go to the first call;
+-- the second's alone to the others. Assumes nothing.
 use mathlib.Core.Path.{_≡_, refl, ap, _∙_}
 use Prim.Native.Nat.{ℕ}
 use mathlib.Core.List.{List, [], _∷_}

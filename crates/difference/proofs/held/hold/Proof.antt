@@ -1,5 +1,5 @@
--- A walk of the code by hand: a `Difference` is made of two fields and the slice passed. A `&[u8]` is Copy, so what it owns is had
--- twice: once for `part` at exit, and once inside the result. Assumes nothing.
+-- A walk of the code by hand: a `Difference` is made of two fields and the slice passed. A `&[u8]` is Copy, so what it
+-- owns is had twice: once for `part` at exit, and once inside the result. Assumes nothing.
 use mathlib.Core.Path.{refl}
 use Prim.Native.Nat.{ℕ, _<_, _^_}
 use mathlib.Core.List.{List, [], _∷_}

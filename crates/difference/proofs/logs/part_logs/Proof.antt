@@ -18,7 +18,10 @@ refused-requires : tie.Need-refused-requires
 refused-requires c κs = search needs
 
 returns : tie.Need-returns
-returns c = c .refused .ensures ∙ first-refused (c .before .before .before .before .before .before .args .first .now) (c .before .before .before .before .before .before .args .second .now) (c .before .before .before .count-events .ensures) (c .before .enum-told2 .given .1)
+returns c =
+    let r = c .before .before .before in
+    let s = r .before .before .before in
+    c .refused .ensures ∙ first-refused (s .args .first .now) (s .args .second .now) (r .count-events .ensures) (c .before .enum-told2 .given .1)
 
 count-events-requires-2 : tie.Need-count-events-requires-2
 count-events-requires-2 c κs = search needs
@@ -33,9 +36,14 @@ refused-requires-2 : tie.Need-refused-requires-2
 refused-requires-2 c κs = search needs
 
 returns-2 : tie.Need-returns-2
-returns-2 c = c .refused2 .ensures
-    ∙ second-refused (c .before .before .before .before .before .before .before .before .before .args .first .now) (c .before .before .before .before .before .before .before .before .before .args .second .now) (c .before .before .before .before .before .before .count-events .ensures) (c .before .before .before .before .enum-told .given .1)
-    (c .before .before .before .count-events2 .ensures) (c .before .enum-told4 .given .1)
+returns-2 c =
+    let q = c .before .before .before in
+    let e = q .before in
+    let r = e .before .before in
+    let s = r .before .before .before in
+    c .refused2 .ensures
+    ∙ second-refused (s .args .first .now) (s .args .second .now) (r .count-events .ensures) (e .enum-told .given .1)
+    (q .count-events2 .ensures) (c .before .enum-told4 .given .1)
 
 shared-end-requires : tie.Need-shared-end-requires
 shared-end-requires c κs = search needs
@@ -47,8 +55,14 @@ goes-on-requires-2 : tie.Need-goes-on-requires-2
 goes-on-requires-2 c κs = search needs
 
 returns-3 : tie.Need-returns-3
-returns-3 c = compared (c .before .before .before .before .before .before .before .before .before .before .before .args .first .now) (c .before .before .before .before .before .before .before .before .before .before .before .args .second .now) (c .before .before .before .before .before .before .before .before .count-events .ensures) (c .before .before .before .before .before .before .enum-told .given .1)
-    (c .before .before .before .before .before .count-events2 .ensures) (c .before .before .before .enum-told3 .given .1) (c .before .before .shared-end .ensures .0) (c .before .goes-on .ensures) (c .goes-on2 .ensures)
+returns-3 c =
+    let f = c .before .before .before in
+    let q = f .before .before in
+    let e = q .before in
+    let r = e .before .before in
+    let s = r .before .before .before in
+    compared (s .args .first .now) (s .args .second .now) (r .count-events .ensures) (e .enum-told .given .1)
+    (q .count-events2 .ensures) (f .enum-told3 .given .1) (c .before .before .shared-end .ensures .0) (c .before .goes-on .ensures) (c .goes-on2 .ensures)
 
 pub part-logs-spec : {M : Type 1} → statement M
 part-logs-spec =

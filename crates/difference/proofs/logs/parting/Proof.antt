@@ -12,7 +12,9 @@ tail-requires : tie.Need-tail-requires
 tail-requires c κs = search needs
 
 returns : tie.Need-returns
-returns c = c .tail .ensures ∙ tail-is (c .before .before .before .before .args .first .now) (c .before .before .before .before .args .second .now) (c .before .part-logs .ensures)
+returns c =
+    let s = c .before .before .before .before in
+    c .tail .ensures ∙ tail-is (s .args .first .now) (s .args .second .now) (c .before .part-logs .ensures)
 
 pub parting-spec : {M : Type 1} → statement M
 parting-spec = tie.close (tie.spec part-logs-requires tail-requires returns)

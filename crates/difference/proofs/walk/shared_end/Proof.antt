@@ -1,5 +1,5 @@
--- The invariant: the place and what the events from it on have in common are the whole common front. An event of the second log ends
--- further on, so the walk does. Assumes nothing.
+-- The invariant: the place and what the events from it on have in common are the whole common front. An event of the
+-- second log ends further on, so the walk does. Assumes nothing.
 use Prim.Native.Nat.{_-_, _≤_, _<_, zero-le}
 use native.Mathlib.Omega.{arith}
 use mathlib.Core.Path.{_≡_, refl, sym, _∙_, subst}
