@@ -68,6 +68,9 @@ extern "C" {
 /* machhurel_event: there is no event at or past the log's end. */
 #define MACHHUREL_FINISHED 255
 
+/* machhurel_difference: the sign, 1 where the logs differ. */
+#define MACHHUREL_DIFFERS(answer) ((unsigned)(((answer) >> 8) & 1))
+
 /*
  * Writes the log of the record under the register file into log[start..], and answers its length in MACHHUREL_COUNT. Refuses 1 to 7. With
  * MACHHUREL_LOG_BYTES of room behind the start it never refuses 7. After 7 MACHHUREL_COUNT has the length of the log: the same call with
@@ -96,6 +99,16 @@ uint64_t machhurel_exceptions(const uint8_t *record, size_t record_len);
  * refuses 1, 2; MACHHUREL_FINISHED where `at` is at or past the end.
  */
 uint64_t machhurel_event(const uint8_t *log, size_t log_len, size_t at);
+
+/*
+ * Where two logs part. Both are read whole first: refuses 1, 2 as the first event that does not read is refused, the
+ * first log's number if both. Otherwise MACHHUREL_DIFFERS says whether the logs differ, which is whether their bytes do.
+ * *at is where the part of the second log begins: at its first event that the first log does not have there. The part
+ * is second[*at..]. It is empty, and *at is second_len, where the logs are equal, where the second ends early and after
+ * a refusal. An address that is known in one log and unknown in the other differs.
+ */
+uint64_t machhurel_difference(const uint8_t *first, size_t first_len, const uint8_t *second, size_t second_len,
+                              uint64_t *at);
 
 #ifdef __cplusplus
 }

@@ -32,6 +32,7 @@ extern crate std;
 
 mod access;
 mod calls;
+mod difference;
 pub mod digits;
 mod event;
 pub mod ffi;
@@ -50,6 +51,7 @@ pub use access::Access;
 pub use calls::{
     digest, exceptions, listing, privilege, visit, Digest, Exceptions, PrivilegeLevel,
 };
+pub use difference::{difference, Difference};
 pub use event::{Event, Events};
 pub use file::{check_file, known, Known, RegisterFile};
 pub use item::{Broken, Class, Item, Items, KINDS};

@@ -2,14 +2,15 @@
 use Prim.Native.Nat.{ℕ, _+_, _-_, _≤_, _<_}
 use native.Mathlib.Omega.{arith}
 use mathlib.Core.Path.{_≡_, refl, sym, _∙_}
-use mathlib.Core.Bool.{Bool, cond, _||_}
+use mathlib.Core.Bool.{Bool, true, cond, _||_}
+use mathlib.Core.Logic.{_⊎_, inl, inr}
 use mathlib.Core.List.{List, [], _∷_}
 use lib.ListN.{length, getD, drop, length-drop, drop-of-length-le}
 use lib.Dec.{ltb, eqb}
-use borrow.Author.Tests.{eq-eqb, ne-eqb, lt-ltb, le-ltb, ltb-false}
+use borrow.Author.Tests.{eq-eqb, eqb-false, ne-eqb, lt-ltb, le-ltb, ltb-false}
 use Rattle.laws.specs.Words.{numberAt}
 use Rattle.registers.specs.Banks.{reg}
-use Rattle.laws.proofs.Choice.{either, or-right}
+use Rattle.laws.proofs.Choice.{either, or-left, or-right}
 use Rattle.laws.proofs.Lending.{part, part-is}
 use Rattle.definition.specs.declared.Event.{Event}
 use Rattle.definition.specs.declared.Event.the-variants.{RegisterRead, RegisterWrite, MemoryRead, MemoryWrite, UnknownRead, UnknownWrite}
@@ -55,29 +56,45 @@ front-whole [] is ne m p g = absurd (omega arith)
 front-whole (k ∷ l) {b} is ne m p g =
     let n : b ≤ length l = omega arith in rw (← is, ne-eqb b 0 ne, le-ltb (length l) b n, ← p, ← g)
 
--- an event takes some of the bytes, and a log is finished where none is left
+-- an event that was found: its kind is known, its body is whole, its contents are in order
+pub record Holds (l : List ℕ) (e : Event) (n : ℕ) : Type 0 where
+  pub known : body l ≡ 0 → ⊥
+  pub long : n ≡ 1 + body l
+  pub inside : n ≤ length l
+  pub event : e ≡ frontEvent l
+  pub good : isEvent e ≡ true
+
+-- what an answer says of the bytes: a refusal is 1 or 2, and a log is finished where none is left
 abbrev pub Within : List ℕ → Reading → Type 0
-Within l (Found e n) = (0 < n) × (n ≤ length l)
-Within l (Bad k) = Unit
+Within l (Found e n) = Holds l e n
+Within l (Bad k) = (k ≡ 1) ⊎ (k ≡ 2)
 Within l Finished = length l ≡ 0
 
 pub within : (l : List ℕ) → Within l (readFront l)
 unfolding readFront
 within [] = refl
 within (k ∷ l) =
-    either (Within (k ∷ l)) (eqb (bodyOf k) 0 || ltb (length l) (bodyOf k)) _ _ (λ t. tt)
+    either (Within (k ∷ l)) (eqb (bodyOf k) 0 || ltb (length l) (bodyOf k)) _ _ (λ t. inl refl)
     (λ t. either (Within (k ∷ l)) (isEvent (frontEvent (k ∷ l))) _ _
-    (λ u. let m : bodyOf k ≤ length l = ltb-false (length l) (bodyOf k) (or-right (eqb (bodyOf k) 0) (ltb (length l) (bodyOf k)) t) in (omega arith, omega arith))
-    (λ u. tt))
+    (λ u. let m : bodyOf k ≤ length l = ltb-false (length l) (bodyOf k) (or-right (eqb (bodyOf k) 0) (ltb (length l) (bodyOf k)) t) in
+    record { known = eqb-false (bodyOf k) 0 (or-left (eqb (bodyOf k) 0) (ltb (length l) (bodyOf k)) t); long = refl; inside = omega arith; event = refl; good = u })
+    (λ u. inr refl))
 
--- the same of reading at a place: an event ends after it, within the log
+pub holds : (l : List ℕ) {e : Event} {n : ℕ} → readFront l ≡ Found e n → Holds l e n
+holds l f = rw f at (within l)
+
+-- and back
+pub finds : (k : ℕ) (l : List ℕ) → (bodyOf k ≡ 0 → ⊥) → bodyOf k ≤ length l → isEvent (frontEvent (k ∷ l)) ≡ true → readFront (k ∷ l) ≡ Found (frontEvent (k ∷ l)) (1 + bodyOf k)
+finds k l known whole good = sym (front-whole (k ∷ l) refl known (omega arith) refl (sym good))
+
+-- reading at a place: an event ends after it, within the log
 abbrev pub Moves : List ℕ → ℕ → Reading → Type 0
 Moves l at (Found e n) = (at < n) × (n ≤ length l)
 Moves l at (Bad k) = Unit
 Moves l at Finished = length l ≤ at
 
 moved : (l : List ℕ) (at : ℕ) (r : Reading) → Within (drop at l) r → Moves l at (placed at r)
-moved l at (Found e n) w = let s = length-drop at l in (omega arith, omega arith)
+moved l at (Found e n) w = let s = length-drop at l in (omega (arith, w .long), omega (arith, w .long, w .inside))
 moved l at (Bad k) w = tt
 moved l at Finished w = let s = length-drop at l in omega arith
 

@@ -15,7 +15,7 @@ use Rattle.definition.proofs.RoundTrip.{round-trip, log-round-trip}
 use Rattle.event.specs.Held.{Held}
 use Rattle.event.specs.declared.walk.Counted.the-variants.{All}
 use Rattle.event.specs.Counts.{countedOf}
-use Rattle.event.proofs.Walks.{reads-count}
+use Rattle.event.proofs.Wholes.{reads-count}
 
 pub front-round : (e : Event) (post : List ℕ) → Held e → readFront (eventBytes e ++ post) ≡ Found e (length (eventBytes e))
 front-round e post h = round-trip Held (λ e h. h .good) (λ a n h. h .fits) (λ a n h. h .fits) e post h

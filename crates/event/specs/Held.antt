@@ -2,6 +2,8 @@
 use Prim.Native.Nat.{ℕ, _^_, _<_}
 use mathlib.Core.Path.{_≡_}
 use mathlib.Core.Bool.{true}
+use mathlib.Core.List.{List}
+use lib.ListN.{getD}
 use Rattle.definition.specs.declared.Event.{Event}
 use Rattle.definition.specs.declared.Event.the-variants.{RegisterRead, RegisterWrite, MemoryRead, MemoryWrite, UnknownRead, UnknownWrite}
 use Rattle.definition.specs.Readings.{isEvent}
@@ -19,3 +21,7 @@ addressIn (UnknownWrite n) = 0
 pub record Held (e : Event) : Type 0 where
   pub good : isEvent e ≡ true
   pub fits : addressIn e < 2 ^ 64
+
+-- numbers that are bytes
+abbrev pub Bytes : List ℕ → Type 0
+Bytes l = (i : ℕ) → getD l i 0 < 256

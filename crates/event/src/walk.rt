@@ -2,12 +2,24 @@
 use crate::reader::read_event;
 use definition::Reading;
 ghost use mathlib.Core.Path.{_≡_};
-ghost use Rattle.event.specs.Counts.{countedOf, endOf};
+ghost use Rattle.event.specs.Counts.{countedOf, countedNumber, endOf};
 
 // How many events a log has, or why it does not read whole.
 pub enum Counted {
     All(usize),
     Refused(u8),
+}
+
+impl Counted {
+    // The refusal's number, 0 where there is none.
+    pub fn number(self) -> u8
+        ensures { λ r. ⌜ r ≡ countedNumber self ⌝ }
+    {
+        match self {
+            Counted::All(_) => 0,
+            Counted::Refused(k) => k,
+        }
+    }
 }
 
 pub fn count_events(log: &[u8]) -> Counted

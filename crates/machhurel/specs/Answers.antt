@@ -1,11 +1,13 @@
 -- What the calls answer: which bits of the number hold what. Bits not named are 0.
 use Prim.Native.Nat.{ℕ, _+_, _-_, _*_, _^_}
 use mathlib.Core.List.{List}
+use mathlib.Core.Bool.{cond}
 use Rattle.access.specs.Exceptions.{infoNumber, infoVectors}
 use Rattle.access.specs.Privileges.{levelNumber}
 use Rattle.access.specs.declared.InfoAnswer.{InfoAnswer}
 use Rattle.digest.specs.Digests.{digestNumber, digestIn}
 use Rattle.digest.specs.declared.DigestAnswer.{DigestAnswer}
+use Rattle.difference.specs.declared.logs.Parted.{Parted}
 use Rattle.definition.specs.Behaviors.{privilegeNumber, privilegeIn}
 use Rattle.definition.specs.Visits.{numberOf, opcodeOf, countOf}
 use Rattle.definition.specs.Readings.{readingNumber}
@@ -45,3 +47,7 @@ lengthFrom place Finished = 0
 
 abbrev pub eventBits : ℕ → Reading → ℕ
 eventBits place r = readingNumber r + at 32 (lengthFrom place r)
+
+-- difference: 0-7 number, 8 the sign (1 different); the place where the part begins stands in a word beside it
+abbrev pub differenceBits : Parted → ℕ
+differenceBits p = p .number + at 8 (cond (p .differs) 1 0)

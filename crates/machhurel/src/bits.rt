@@ -2,10 +2,11 @@
 ghost use mathlib.Core.Path.{_≡_};
 ghost use Prim.Native.Nat.{_^_, _<_};
 ghost use Rattle.definition.specs.Visits.{countOf};
-ghost use Rattle.machhurel.specs.Answers.{answerBits, digestBits, privilegeBits, exceptionBits};
+ghost use Rattle.machhurel.specs.Answers.{answerBits, digestBits, privilegeBits, exceptionBits, differenceBits};
 use access::InfoAnswer;
 use definition::Answer;
 use definition::PrivilegeAnswer;
+use difference::Parted;
 use digest::DigestAnswer;
 
 pub fn answer_bits(a: Answer) -> u64
@@ -49,4 +50,14 @@ pub fn exception_bits(a: InfoAnswer) -> u64
         InfoAnswer::Done(info) => (info.vectors as u64) * 0x1_0000_0000,
         InfoAnswer::Refused(number) => number as u64,
     }
+}
+
+pub fn difference_bits(p: Parted) -> u64
+    ensures { λ r. ⌜ r ≡ differenceBits p ⌝ }
+{
+    let number = p.number as u64;
+    if p.differs {
+        return number + 0x100;
+    }
+    number
 }

@@ -5,7 +5,8 @@ ghost use Rattle.definition.specs.Behaviors.{digestCall, privilegeCall, excepti
 ghost use Rattle.definition.specs.Listings.{listingCall};
 ghost use Rattle.definition.specs.Readings.{readAt};
 ghost use Rattle.definition.specs.Visits.{visitOf};
-ghost use Rattle.machhurel.specs.Answers.{packed, digestBits, privilegeBits, exceptionBits, eventBits};
+ghost use Rattle.machhurel.specs.Answers.{packed, digestBits, privilegeBits, exceptionBits, eventBits, differenceBits};
+ghost use Rattle.difference.specs.Partings.{partedOf};
 
 #[no_mangle]
 pub extern "C" fn machhurel_visit(bytes: &[u8], file: &[u8], log: &mut [u8], start: usize) -> u64
@@ -52,4 +53,14 @@ pub extern "C" fn machhurel_event(log: &[u8], at: usize) -> u64
         Reading::Bad(number) => number as u64,
         Reading::Finished => 255,
     }
+}
+
+#[no_mangle]
+pub extern "C" fn machhurel_difference(first: &[u8], second: &[u8], at: &mut u64) -> u64
+    ensures { λ r. ⌜ (r ≡ differenceBits (partedOf (now (first .entry)) (now (second .entry))))
+        × (now (at .exit) ≡ partedOf (now (first .entry)) (now (second .entry)) .at) ⌝ }
+{
+    let parted = difference::part_logs(first, second);
+    *at = parted.at as u64;
+    crate::bits::difference_bits(parted)
 }

@@ -2,6 +2,7 @@
 mod bits; // bits.rt: which bits of an answer hold what
 mod calls; // calls.rt: the calls, exported as C
 
+pub use calls::machhurel_difference;
 pub use calls::machhurel_digest;
 pub use calls::machhurel_event;
 pub use calls::machhurel_exceptions;

@@ -1,5 +1,6 @@
 // Worked records through every call. Each row says what stands in it: all bits of an answer, all bytes of a buffer. A row that a call
 // answers otherwise is printed as one that differs, so that the output is not the one that is kept.
+mod differences; // differences.rt: the difference call
 mod digests; // digests.rt: the digest call
 mod events; // events.rt: the event call
 mod levels; // levels.rt: the privilege and exceptions calls
@@ -13,5 +14,6 @@ fn main() {
     levels::run();
     listings::run();
     events::run();
+    differences::run();
     visits::run();
 }

@@ -65,10 +65,12 @@ fn p2_file() -> [u8; 141] {
 pub const P2_LOG: [u8; 32] =
     *b"\x02\x0B\x00\x01\x00\x03\x03\x08\x10\x00\x00\x00\x00\x00\x00\x08\x01\x00\x03\x04\x08\x10\x00\x00\x00\x00\x00\x00\x08\x01\x00\x00";
 
+// The same where rbx is not known.
+pub const P3_LOG: [u8; 16] = *b"\x02\x0B\x00\x01\x00\x03\x05\x08\x01\x00\x03\x06\x08\x01\x00\x00";
+
 fn memory() {
     row(b"P2", p2(), p2_file(), 0x20_0000_0000, &P2_LOG);
-    let log = b"\x02\x0B\x00\x01\x00\x03\x05\x08\x01\x00\x03\x06\x08\x01\x00\x00";
-    row(b"P3", p2(), unknown(), 0x10_0000_0000, log);
+    row(b"P3", p2(), unknown(), 0x10_0000_0000, &P3_LOG);
 }
 
 fn addresses() {

@@ -1,5 +1,5 @@
 -- The invariant: the whole count is n and the events from the place on. Each event ends further on, so the walk does. Assumes nothing.
-use Prim.Native.Nat.{_+_, _-_, _≤_, _<_, zero-le}
+use Prim.Native.Nat.{_-_, _≤_, _<_, zero-le}
 use native.Mathlib.Omega.{arith}
 use mathlib.Core.Path.{_≡_, sym, ap, _∙_, subst}
 use lib.ListN.{length}
@@ -7,20 +7,22 @@ use borrow.Author.Needs.{needs}
 use Rattle.definition.specs.declared.Reading.{Reading}
 use Rattle.definition.specs.declared.Reading.the-variants.{Found}
 use Rattle.definition.specs.Readings.{readAt}
-use Rattle.event.specs.Counts.{counted, countedOf}
+use Rattle.event.specs.Wholes.{onward, wholeOf}
+use Rattle.event.specs.Counts.{countedOf}
 use Rattle.event.proofs.Fronts.{Moves, goes-on}
-use Rattle.event.proofs.Walks.{left, whole, unrolled, stopped}
+use Rattle.event.proofs.Walks.{wholeAt, turn, after, after-none, after-one, stopped}
 use Rattle.event.proofs.walk.count_events.Statement.{statement}
 use Rattle.event.proofs.walk.count_events.Tie as tie
 
 abbrev Inv-loop : tie.InvT-loop
-Inv-loop log at₀ n₀ at n = (at ≤ length log) × (n ≤ at) × (countedOf log ≡ left log at n)
+Inv-loop log at₀ n₀ at n = (at ≤ length log) × (n ≤ at) × (countedOf log ≡ after n (wholeAt log at))
 
 abbrev μ-loop : tie.MeasureT-loop
 μ-loop log at₀ n₀ at n = length log - at
 
 loop-holds : tie.Need-loop-holds Inv-loop μ-loop
-loop-holds c = (zero-le, zero-le, whole (c .before .args .log .now))
+unfolding countedOf
+loop-holds c = (zero-le, zero-le, after-none (wholeOf (c .before .args .log .now)))
 
 read-event-requires : tie.Need-read-event-requires Inv-loop μ-loop
 read-event-requires c κs = tt
@@ -36,9 +38,9 @@ returns c =
     let l = c .before .before .before .loop in
     let log = c .before .before .before .before .before .args .log .now in
     c .ended .ensures
-    ∙ sym (stopped (c .before .before .read-event .result) (λ k. left log k (l .n + 1)) (l .n) (c .before .match .keys2))
-    ∙ ap (λ (r : Reading). counted r (λ k. left log k (l .n + 1)) (l .n)) (c .before .before .read-event .ensures)
-    ∙ sym (l .inv .2 ∙ unrolled log (l .at) (l .n))
+    ∙ stopped (c .before .before .read-event .result) (wholeAt log) (l .n) (c .before .match .keys2)
+    ∙ ap (λ (r : Reading). after (l .n) (onward r (wholeAt log))) (c .before .before .read-event .ensures)
+    ∙ sym (l .inv .2 ∙ ap (after (l .n)) (turn log (l .at)))
 
 -- the event that was read ends further on, within the log
 read :
@@ -65,7 +67,9 @@ loop-again c =
     let l = c .before .before .before .before .loop in
     let log = c .before .before .before .before .before .before .args .log .now in
     let m = further c in
-    (m .1, omega arith, l .inv .2 ∙ unrolled log (l .at) (l .n) ∙ ap (λ (r : Reading). counted r (λ k. left log k (l .n + 1)) (l .n)) (read c))
+    let next = c .before .r .given .0 .1 .0 in
+    let e = c .before .r .given .0 .0 in
+    (m .1, omega arith, l .inv .2 ∙ ap (after (l .n)) (turn log (l .at) ∙ ap (λ (r : Reading). onward r (wholeAt log)) (read c)) ∙ after-one e (l .n) (wholeAt log next))
 
 pub count-events-spec : {M : Type 1} → statement M
 count-events-spec =

@@ -1,0 +1,4 @@
+pub mod Lists
+pub mod Walks
+pub mod Compared
+pub mod Proved

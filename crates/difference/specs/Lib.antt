@@ -1,0 +1,3 @@
+pub mod Partings
+pub mod Promises
+pub mod Rows
