@@ -1,0 +1,29 @@
+use Rattle.watching.specs.Traces as defined
+use borrow.Author.Needs.{needs}
+use Rattle.watching.proofs.watch.Watch.new.Statement.{statement}
+use Rattle.watching.proofs.watch.Watch.new.Tie as tie
+use Rattle.watching.proofs.watch.Watch.new.Reads as reads
+use Rattle.watching.proofs.watch.Watch.new.Lts as lts
+use Rattle.watching.proofs.verdicts.is_length.Reads as is-length-reads
+use Rattle.watching.proofs.watch.fresh.Reads as fresh-reads
+
+is-length-requires : tie.Need-is-length-requires
+is-length-requires c κs = search needs
+
+fresh-requires : tie.Need-fresh-requires
+fresh-requires c κs = search needs
+
+fresh-requires-2 : tie.Need-fresh-requires-2
+fresh-requires-2 c κs = search needs
+
+returns : tie.Need-returns
+unfolding defined.newOf
+returns c = rw (← (c .before .before .is-length .ensures), c .before .if1 .taken, c .fresh .ensures)
+
+returns-2 : tie.Need-returns-2
+unfolding defined.newOf
+returns-2 c = rw (← (c .before .before .is-length .ensures), c .before .if1 .left, c .fresh2 .ensures)
+
+pub new-spec : {M : Type 1} → statement M
+new-spec =
+    tie.close (tie.spec is-length-requires fresh-requires fresh-requires-2 returns returns-2)

@@ -1,0 +1,17 @@
+use Rattle.watching.specs.Traces as defined
+use borrow.Author.Needs.{needs}
+use Rattle.watching.proofs.watch.Watch.untaken.Statement.{statement}
+use Rattle.watching.proofs.watch.Watch.untaken.Tie as tie
+use Rattle.watching.proofs.watch.Watch.untaken.Reads as reads
+use Rattle.watching.proofs.watch.Watch.untaken.Lts as lts
+use Rattle.watching.proofs.tallies.Tally.zero.Reads as zero-reads
+
+zero-requires : tie.Need-zero-requires
+zero-requires c κs = search needs
+
+returns : tie.Need-returns
+unfolding defined.untaken
+returns c = rw (c .zero .ensures)
+
+pub untaken-spec : {M : Type 1} → statement M
+untaken-spec = tie.close (tie.spec zero-requires returns)
