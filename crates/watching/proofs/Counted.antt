@@ -10,12 +10,12 @@ use Rattle.definition.specs.declared.Event.{Event}
 use Rattle.definition.specs.declared.Reading.{Reading}
 use Rattle.definition.specs.declared.Reading.the-variants.{Found}
 use Rattle.watching.specs.Verdicts.{verdictOf}
-use Rattle.watching.specs.Tallies.{noTally, counting, tallyOf}
+use Rattle.watching.specs.Tallies.{noTally, counting, tallyOf, summed}
 use Rattle.watching.specs.Walks.{eventsIn}
 use Rattle.watching.specs.declared.verdicts.Variable.{Variable}
 use Rattle.watching.specs.declared.verdicts.Verdict.{Verdict}
 use Rattle.watching.specs.declared.tallies.Tally.{Tally}
-use Rattle.watching.proofs.Sums.{summed, summed-none, none-summed, counting-over}
+use Rattle.watching.proofs.Sums.{summed-none, none-summed, counting-over}
 use Rattle.watching.proofs.Walks.{left, whole, stopped, read-on}
 
 module _ (v : Variable) (l : List ℕ) where

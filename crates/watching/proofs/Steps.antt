@@ -1,34 +1,34 @@
 -- A step case by case, on plain variables. Assumes nothing.
-use Prim.Native.Nat.{ℕ, _+_, _≤_, _<_}
+use Prim.Native.Nat.{ℕ, suc, _+_, _≤_, _<_}
 use native.Mathlib.Omega.{arith}
 use mathlib.Core.Path.{_≡_, refl, sym, ap, _∙_}
 use mathlib.Core.Logic.{⊎-elim, _⊎_}
 use mathlib.Core.Bool.{true, false, not, _&&_}
-use mathlib.Core.List.{List, map}
+use mathlib.Core.List.{List, [], _∷_, map}
 use lib.ListN.{length, take}
 use lib.Dec.{ltb, eqb}
 use borrow.Author.Tests.{ltb-true, eq-eqb, ne-eqb}
 use denote.Enum.Declared.{tagOf, declared}
-use Rattle.laws.proofs.Choice.{and-left, and-right}
+use Rattle.laws.proofs.Choice.{and-left, and-right, either}
 use Rattle.registers.specs.Files.{fileOf, isFile}
 use Rattle.record.specs.Records.{recordOf}
 use Rattle.definition.proofs.Answer.{enum}
-use Rattle.definition.specs.Limits.{mostBytes}
+use Rattle.definition.specs.Limits.{mostEvents, mostBytes}
 use Rattle.definition.specs.Logs.{bytesOf}
 use Rattle.definition.specs.Visits.{fixedRecord, logOf, refusalOf, outcome, visitBy, visitOf, numberOf}
 use Rattle.definition.specs.declared.Answer.{Answer}
+use Rattle.definition.specs.declared.Event.{Event}
 use Rattle.definition.specs.declared.Answer.the-variants.{Done}
-use Rattle.definition.proofs.Bounds.{log-bytes}
+use Rattle.definition.proofs.Bounds.{log-bytes, log-events}
 use Rattle.promises.proofs.Outcomes.{number-is}
 use Rattle.promises.proofs.Whole.{visit-written, visit-reads}
 use Rattle.watching.specs.Verdicts.{isLength, verdictOf}
-use Rattle.watching.specs.Tallies.{noTally, tallyOf}
+use Rattle.watching.specs.Tallies.{noTally, tallyOf, total}
 use Rattle.watching.specs.Walks.{eventsIn}
-use Rattle.watching.specs.Traces.{mostPairs, full, answerTo, refusals, loggedBy, verdictsOf, isTaking, untaken, taken, stepOf}
-use Rattle.watching.specs.declared.verdicts.Verdict.{Verdict}
-use Rattle.watching.specs.declared.tallies.Tally.{Tally}
+use Rattle.watching.specs.Traces.{Pair, mostPairs, full, answerTo, refusals, loggedBy, verdictsOf, isTaking, untaken, taken, stepOf}
+use Rattle.watching.specs.declared.verdicts.Variable.{Variable}
 use Rattle.watching.specs.declared.watch.Watch.{Watch}
-use Rattle.watching.specs.declared.watch.Stepped.{Stepped}
+use Rattle.watching.proofs.Sums.{tally-most}
 use Rattle.watching.proofs.Walks.{reads-events}
 
 -- what a watch that takes a pair has passed
@@ -92,3 +92,19 @@ module _ (b f : List ℕ) (a : Answer) (log : List ℕ) (visited : (a, log) ≡ 
 pub step-untaken : (w : Watch) (b f : List ℕ) → isTaking w ≡ false → untaken w ≡ stepOf w (b, f)
 unfolding stepOf
 step-untaken w b f h = rw h
+
+-- a pair has no more write events than a log has events
+logged-few : (p : Pair) → length (loggedBy p) ≤ mostEvents
+unfolding loggedBy logOf
+logged-few p =
+    either (λ (es : List Event). length es ≤ mostEvents) (eqb (numberOf (answerTo p)) 0) _ _
+    (λ t. log-events (fileOf (p .1)) (fixedRecord (p .0))) (λ t. omega arith)
+
+map-length : {A B : Type 0} (f : A → B) (xs : List A) → length (map f xs) ≡ length xs
+map-length f [] = refl
+map-length f (x ∷ xs) = ap (λ (n : ℕ). suc n) (map-length f xs)
+
+pub pair-few : (v : Variable) (p : Pair) → total (tallyOf (verdictsOf v p)) ≤ mostEvents
+unfolding verdictsOf
+pair-few v p =
+    omega (arith, tally-most (map (verdictOf v) (loggedBy p)), map-length (verdictOf v) (loggedBy p), logged-few p)

@@ -24,7 +24,10 @@ tallyOf (v ∷ vs) = counting v (tallyOf vs)
 abbrev pub total : Tally → ℕ
 total t = t .unknown + t .none + t .part + t .whole
 
--- two tallies together, modulo two to the 64
+-- two tallies together, and the same modulo two to the 64
+abbrev pub summed : Tally → Tally → Tally
+summed s t = record { unknown = s .unknown + t .unknown; none = s .none + t .none; part = s .part + t .part; whole = s .whole + t .whole }
+
 unfoldable pub added : Tally → Tally → Tally
 added s t = record {
   unknown = (s .unknown + t .unknown) % word;

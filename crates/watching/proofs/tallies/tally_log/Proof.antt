@@ -12,9 +12,9 @@ use Rattle.definition.specs.declared.Reading.the-variants.{Found}
 use Rattle.definition.specs.Readings.{readAt}
 use Rattle.event.proofs.Fronts.{Moves, goes-on}
 use Rattle.watching.specs.Verdicts.{verdictOf}
-use Rattle.watching.specs.Tallies.{tallyOf, total}
+use Rattle.watching.specs.Tallies.{tallyOf, total, summed}
 use Rattle.watching.specs.Walks.{eventsIn}
-use Rattle.watching.proofs.Sums.{summed, counting-most}
+use Rattle.watching.proofs.Sums.{counting-most}
 use Rattle.watching.proofs.Walks.{left, read-good}
 use Rattle.watching.proofs.Counted.{begun, goes, ends}
 use Rattle.watching.proofs.tallies.tally_log.Statement.{statement}
