@@ -2,7 +2,7 @@
 use Prim.Native.Nat.{ℕ, _-_, _^_}
 use mathlib.Core.List.{List, [], _∷_}
 use Rattle.promises.specs.Rows.{recordWith, opcode, specs, regs, size, behavior, access, fileKnowing, knows, Q, RegRRR, Deref, Deref-rdi, Table}
-use Rattle.watching.specs.Verdicts.{storeVerdict, storeTouched}
+use Rattle.watching.specs.Verdicts.{variable, storeVerdict, storeTouched}
 use Rattle.watching.specs.Traces.{Pair, verdictsOf, watchOf}
 use Rattle.watching.specs.declared.verdicts.Variable.{Variable}
 use Rattle.watching.specs.declared.verdicts.Verdict.{Verdict}
@@ -10,9 +10,6 @@ use Rattle.watching.specs.declared.verdicts.Verdict.the-variants.{NoWrite, Addr
 use Rattle.watching.specs.declared.watch.When.{When}
 use Rattle.watching.specs.declared.watch.When.the-variants.{Never, At}
 use Rattle.watching.specs.declared.watch.Watch.{Watch}
-
-abbrev pub variable : ℕ → ℕ → Variable
-variable a n = record { address = a; length = n }
 
 -- a variable, and a store of n bytes at an address
 pub record Store : Type 0 where

@@ -11,7 +11,7 @@ use Rattle.definition.specs.Visits.{logOf, visitOf, numberOf}
 use Rattle.definition.specs.declared.Event.{Event}
 use Rattle.definition.specs.declared.Answer.{Answer}
 use Rattle.definition.specs.declared.Answer.the-variants.{Done}
-use Rattle.watching.specs.Verdicts.{isLength, verdictOf}
+use Rattle.watching.specs.Verdicts.{variable, isLength, verdictOf}
 use Rattle.watching.specs.Tallies.{noTally, tallyOf, added}
 use Rattle.watching.specs.declared.verdicts.Variable.{Variable}
 use Rattle.watching.specs.declared.verdicts.Verdict.{Verdict}
@@ -69,8 +69,8 @@ fresh v = record { variable = v; pairs = 0; tally = noTally; refused = 0; first 
 unfoldable pub newOf : ℕ → ℕ → WatchAnswer
 newOf a n =
     cond (isLength n)
-    (record { number = 0; watch = fresh (record { address = a; length = n }) })
-    (record { number = 2; watch = fresh (record { address = 0; length = 0 }) })
+    (record { number = 0; watch = fresh (variable a n) })
+    (record { number = 2; watch = fresh (variable 0 0) })
 
 -- a pair is taken where the variable has a length that there is, and the limit is not reached
 unfoldable pub isTaking : Watch → Bool

@@ -16,6 +16,9 @@ use Rattle.watching.specs.declared.verdicts.Verdict.the-variants.{NoWrit
 use Rattle.watching.specs.declared.verdicts.Naming.{Naming}
 use Rattle.watching.specs.declared.verdicts.Naming.the-variants.{Named, Unnamed, Ended}
 
+abbrev pub variable : ℕ → ℕ → Variable
+variable a n = record { address = a; length = n }
+
 -- a length that a variable may have; another is refused 2
 abbrev pub isLength : ℕ → Bool
 isLength n = leb 1 n && leb n 8
