@@ -1,6 +1,6 @@
 //! The C interface itself, for callers that want the bits of an answer: include/machhurel.h says which bits hold what.
 //!
-//! Each pointer and length must be those of one slice; that is all that a call asks.
+//! Each pointer and length must be those of one slice, and a watch must be ten words that nobody else writes; that is all that a call asks.
 #![allow(missing_docs)]
 
 extern "C" {
@@ -24,4 +24,19 @@ extern "C" {
     pub fn machhurel_privilege(record: *const u8, record_len: usize) -> u64;
     pub fn machhurel_exceptions(record: *const u8, record_len: usize) -> u64;
     pub fn machhurel_event(log: *const u8, log_len: usize, at: usize) -> u64;
+    pub fn machhurel_watch_new(watch: *mut [u64; 10], address: u64, length: u64) -> u64;
+    pub fn machhurel_watch_step(
+        watch: *mut [u64; 10],
+        record: *const u8,
+        record_len: usize,
+        file: *const u8,
+        file_len: usize,
+    ) -> u64;
+    pub fn machhurel_verdict(
+        address: u64,
+        length: u64,
+        log: *const u8,
+        log_len: usize,
+        at: usize,
+    ) -> u64;
 }

@@ -33,12 +33,14 @@ mod calls;
 mod event;
 pub mod ffi;
 mod refusal;
+mod watch;
 
 pub use calls::{
     digest, exceptions, listing, privilege, visit, Digest, Exceptions, PrivilegeLevel,
 };
 pub use event::{Event, Events, Register};
 pub use refusal::Refusal;
+pub use watch::{verdict, Named, Names, Step, Tally, Verdict, Watch, WATCH_PAIRS};
 
 /// The bytes of a record.
 pub const RECORD_BYTES: usize = 40;

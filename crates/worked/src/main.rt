@@ -7,6 +7,7 @@ mod listings; // listings.rt: the listing call
 mod rows; // rows.rt: how a row is made, compared and printed
 mod samples; // samples.rt: records and register files, by what is not 0 in them
 mod visits; // visits.rt: the visit call, with the bench records
+mod watches; // watches.rt: the calls on a watch
 
 fn main() {
     digests::run();
@@ -14,4 +15,5 @@ fn main() {
     listings::run();
     events::run();
     visits::run();
+    watches::run();
 }
