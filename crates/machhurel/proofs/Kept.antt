@@ -1,15 +1,14 @@
 -- What the calls on a watch ask: the counts of a step and the length of a named event fit their bits; and words and watch are one
 -- another's. Assumes nothing.
-use Prim.Native.Nat.{ℕ, _+_, _-_, _^_, _≤_, _<_}
+use Prim.Native.Nat.{ℕ, _-_, _^_, _≤_, _<_}
 use native.Mathlib.Omega.{arith}
-use mathlib.Core.Path.{_≡_, refl, sym, ap, _∙_, subst}
+use mathlib.Core.Path.{_≡_, refl, sym, subst}
 use mathlib.Core.List.{List, [], _∷_}
 use mathlib.Core.Bool.{Bool, true, false, cond}
 use lib.Dec.{eqb}
 use borrow.Author.Tests.{ne-eqb, eqb-true}
 use Rattle.laws.proofs.Choice.{either}
 use Rattle.definition.specs.Readings.{readAt}
-use Rattle.definition.specs.declared.Event.{Event}
 use Rattle.definition.specs.declared.Reading.{Reading}
 use Rattle.definition.specs.declared.Reading.the-variants.{Found, Bad, Finished}
 use Rattle.watching.specs.Verdicts.{isLength, namedBy, nameAt}

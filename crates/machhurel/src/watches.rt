@@ -10,7 +10,7 @@ ghost use mathlib.Core.Path.{_≡_};
 ghost use Rattle.watching.specs.Verdicts.{variable, nameAt};
 ghost use Rattle.watching.specs.Traces.{newOf, stepOf};
 ghost use Rattle.machhurel.specs.Answers.{steppedBits, namingBits};
-ghost use Rattle.machhurel.specs.Words.{never, whenIn, whenWord, watchIn, wordsOf, newWords};
+ghost use Rattle.machhurel.specs.Words.{whenIn, whenWord, watchIn, wordsOf, newWords};
 
 // The word for no number.
 const NEVER: u64 = 18446744073709551615;

@@ -1,7 +1,7 @@
 -- What the counts of a watch are. Assumes nothing.
-use Prim.Native.Nat.{ℕ, _+_, _*_, _≤_, _<_}
+use Prim.Native.Nat.{ℕ, _+_}
 use native.Mathlib.Omega.{arith}
-use mathlib.Core.Path.{_≡_, refl, sym, ap, ap₂, _∙_}
+use mathlib.Core.Path.{_≡_, refl, sym, ap, _∙_}
 use mathlib.Core.List.{List, [], _∷_, _++_, map}
 use mathlib.Core.Bool.{Bool, true, false, cond}
 use lib.ListN.{length}
@@ -11,9 +11,8 @@ use Rattle.definition.specs.declared.Event.{Event}
 use Rattle.definition.specs.declared.Event.the-variants.{RegisterRead, RegisterWrite, MemoryRead, MemoryWrite, UnknownRead, UnknownWrite}
 use Rattle.watching.specs.Verdicts.{judged, storeVerdict, verdictOf}
 use Rattle.watching.specs.Tallies.{counting, tallyOf, total, summed}
-use Rattle.watching.specs.Traces.{Pair, answerTo, refusals, loggedBy, verdictsOf, fresh, watchOf}
+use Rattle.watching.specs.Traces.{Pair, answerTo, refusals, loggedBy, verdictsOf, fresh}
 use Rattle.watching.specs.declared.verdicts.Variable.{Variable}
-use Rattle.watching.specs.declared.verdicts.Verdict.{Verdict}
 use Rattle.watching.specs.declared.verdicts.Verdict.the-variants.{NoneTouched, PartTouched, WholeTouched}
 use Rattle.watching.specs.declared.tallies.Tally.{Tally}
 use Rattle.watching.proofs.Sums.{tally-append}

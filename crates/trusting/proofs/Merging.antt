@@ -13,14 +13,13 @@ use Rattle.definition.specs.Limits.{mostEvents}
 use Rattle.definition.specs.Visits.{numberOf}
 use Rattle.definition.specs.declared.Answer.{Answer}
 use Rattle.watching.specs.Verdicts.{isLength}
-use Rattle.watching.specs.Tallies.{noTally, tallyOf, total, summed, added}
+use Rattle.watching.specs.Tallies.{tallyOf, total, summed}
 use Rattle.watching.specs.Traces.{Pair, mostPairs, answerTo, refusals, verdictsOf, numbered, earlier, later, fresh, isTaking, further, taken, untaken, stepOf, runFrom, watchOf}
 use Rattle.watching.specs.declared.verdicts.Variable.{Variable}
 use Rattle.watching.specs.declared.tallies.Tally.{Tally}
 use Rattle.watching.specs.declared.watch.When.{When}
 use Rattle.watching.specs.declared.watch.When.the-variants.{Never, At}
 use Rattle.watching.specs.declared.watch.Watch.{Watch}
-use Rattle.watching.specs.declared.watch.Stepped.{Stepped}
 use Rattle.watching.proofs.Sums.{tally-is, summed-none, none-summed, added-small}
 use Rattle.watching.proofs.Steps.{pair-few}
 use Rattle.trusting.specs.Merges.{shifted, merged}

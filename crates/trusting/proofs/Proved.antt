@@ -1,5 +1,5 @@
 -- Every statement of specs/Promises.antt, and the tables of specs/Rows.antt, proved.
-use Prim.Native.Nat.{ℕ, _+_, _*_, _%_, _≤_, _<_}
+use Prim.Native.Nat.{ℕ, _+_, _%_, _<_}
 use native.Mathlib.Omega.{arith}
 use native.Mathlib.Nat.{zero-add}
 use mathlib.Core.Path.{_≡_, refl, sym, ap, ap₂, _∙_}
@@ -10,16 +10,16 @@ use Rattle.laws.specs.Tests.{isIn}
 use Rattle.definition.specs.Addresses.{word}
 use Rattle.definition.specs.Visits.{numberOf}
 use Rattle.watching.specs.Verdicts.{bytesFrom, storeTouched}
-use Rattle.watching.specs.Tallies.{noTally, tallyOf, summed}
-use Rattle.watching.specs.Traces.{Pair, mostPairs, answerTo, refusals, loggedBy, verdictsOf, fresh, further, taken, untaken, stepOf, runFrom, watchOf}
+use Rattle.watching.specs.Tallies.{noTally, tallyOf}
+use Rattle.watching.specs.Traces.{Pair, mostPairs, answerTo, refusals, loggedBy, verdictsOf, fresh, taken, untaken, stepOf, runFrom, watchOf}
 use Rattle.watching.specs.declared.verdicts.Variable.{Variable}
 use Rattle.watching.specs.declared.watch.Watch.{Watch}
-use Rattle.watching.proofs.Sums.{summed-none, added-small}
+use Rattle.watching.proofs.Sums.{summed-none}
 use Rattle.watching.proofs.Walks.{named}
 use Rattle.trusting.specs.Merges.{merged}
 use Rattle.trusting.specs.Promises as promised
 use Rattle.trusting.specs.Rows as rows
-use Rattle.trusting.proofs.Merging.{Bounded, watch-is, earlier-never, pairWatch, whole-variable, full-takes, short-takes, step-taken, step-untaken, small, step-merged, watch-merged, watch-first, watch-bounded, whole-append}
+use Rattle.trusting.proofs.Merging.{watch-is, earlier-never, pairWatch, whole-variable, full-takes, short-takes, step-taken, step-untaken, step-merged, watch-merged, watch-first, watch-bounded, whole-append}
 use Rattle.trusting.proofs.Counts as counts
 use Rattle.trusting.proofs.Numbers as numbers
 use Rattle.trusting.proofs.Bits as bits

@@ -3,7 +3,7 @@
 use Prim.Native.Nat.{ℕ, _+_, _*_, _%_, _≤_, _<_}
 use mathlib.Core.Path.{_≡_}
 use mathlib.Core.List.{List, [], _∷_, _++_}
-use mathlib.Core.Bool.{Bool, true, false, _&&_}
+use mathlib.Core.Bool.{true, false, _&&_}
 use lib.ListN.{length, getD, take}
 use lib.Dec.{ltb}
 use Rattle.laws.specs.Words.{bit}
@@ -19,10 +19,9 @@ use Rattle.definition.specs.declared.Answer.the-variants.{Done}
 use Rattle.definition.specs.declared.Reading.the-variants.{Found}
 use Rattle.watching.specs.Verdicts.{isLength, bytesFrom, verdictOf, storeTouched, touchedOf, nameAt}
 use Rattle.watching.specs.Tallies.{noTally, tallyOf, total, summed}
-use Rattle.watching.specs.Traces.{Pair, mostPairs, answerTo, refusals, loggedBy, verdictsOf, fresh, stepOf, watchOf}
+use Rattle.watching.specs.Traces.{Pair, mostPairs, answerTo, refusals, loggedBy, verdictsOf, stepOf, watchOf}
 use Rattle.watching.specs.declared.verdicts.Variable.{Variable}
 use Rattle.watching.specs.declared.verdicts.Naming.the-variants.{Named}
-use Rattle.watching.specs.declared.tallies.Tally.{Tally}
 use Rattle.watching.specs.declared.watch.When.{When}
 use Rattle.watching.specs.declared.watch.When.the-variants.{Never, At}
 use Rattle.watching.specs.declared.watch.Watch.{Watch}

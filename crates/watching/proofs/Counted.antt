@@ -1,8 +1,8 @@
 -- The tally of the events from a place on, as a walk counts them. Assumes nothing.
 use Prim.Native.Nat.{ℕ}
-use mathlib.Core.Path.{_≡_, refl, sym, ap, _∙_}
+use mathlib.Core.Path.{_≡_, sym, ap, _∙_}
 use mathlib.Core.Logic.{_⊎_}
-use mathlib.Core.List.{List, [], _∷_, map}
+use mathlib.Core.List.{List, map}
 use denote.Enum.Declared.{tagOf, declared}
 use Rattle.definition.proofs.Reading.{enum}
 use Rattle.definition.specs.Readings.{readAt}

@@ -2,7 +2,7 @@
 use Prim.Native.Nat.{ℕ, zero, suc, _+_, _-_, _^_, _%_, _≤_, _<_}
 use native.Mathlib.Omega.{arith}
 use mathlib.Core.Path.{_≡_, refl, sym, ap, _∙_}
-use mathlib.Core.List.{List, [], _∷_}
+use mathlib.Core.List.{List}
 use mathlib.Core.Bool.{Bool, true, false, cond}
 use lib.Dec.{ltb, leb, eqb}
 use borrow.Author.Tests.{lt-ltb, le-ltb, eq-eqb, ne-eqb, ltb-true, ltb-false, eqb-true, eqb-false, leb-true}
@@ -12,7 +12,6 @@ use Rattle.definition.specs.Addresses.{word}
 use Rattle.definition.specs.Readings.{isSize}
 use Rattle.watching.specs.Verdicts.{isLength, bytesFrom, among, judged, storeVerdict}
 use Rattle.watching.specs.declared.verdicts.Variable.{Variable}
-use Rattle.watching.specs.declared.verdicts.Verdict.{Verdict}
 use Rattle.watching.specs.declared.verdicts.Verdict.the-variants.{NoneTouched, PartTouched, WholeTouched}
 
 -- how far a lies behind b on the circle of addresses, and that a wrapping difference is that

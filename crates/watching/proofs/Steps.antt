@@ -1,9 +1,9 @@
 -- A step case by case, on plain variables. Assumes nothing.
-use Prim.Native.Nat.{ℕ, suc, _+_, _≤_, _<_}
+use Prim.Native.Nat.{ℕ, suc, _≤_, _<_}
 use native.Mathlib.Omega.{arith}
 use mathlib.Core.Path.{_≡_, refl, sym, ap, _∙_}
 use mathlib.Core.Logic.{⊎-elim, _⊎_}
-use mathlib.Core.Bool.{true, false, not, _&&_}
+use mathlib.Core.Bool.{true, false, not}
 use mathlib.Core.List.{List, [], _∷_, map}
 use lib.ListN.{length, take}
 use lib.Dec.{ltb, eqb}
@@ -25,7 +25,7 @@ use Rattle.promises.proofs.Whole.{visit-written, visit-reads}
 use Rattle.watching.specs.Verdicts.{isLength, verdictOf}
 use Rattle.watching.specs.Tallies.{noTally, tallyOf, total}
 use Rattle.watching.specs.Walks.{eventsIn}
-use Rattle.watching.specs.Traces.{Pair, mostPairs, full, answerTo, refusals, loggedBy, verdictsOf, isTaking, untaken, taken, stepOf}
+use Rattle.watching.specs.Traces.{Pair, mostPairs, full, answerTo, loggedBy, verdictsOf, isTaking, untaken, taken, stepOf}
 use Rattle.watching.specs.declared.verdicts.Variable.{Variable}
 use Rattle.watching.specs.declared.watch.Watch.{Watch}
 use Rattle.watching.proofs.Sums.{tally-most}

@@ -1,5 +1,5 @@
 -- Tallies: one verdict more, two together, and the tally of a log. Assumes nothing.
-use Prim.Native.Nat.{ℕ, _+_, _^_, _%_, _≤_, _<_}
+use Prim.Native.Nat.{_+_, _^_, _≤_, _<_}
 use native.Mathlib.Omega.{arith}
 use mathlib.Core.Path.{_≡_, refl, sym, ap, _∙_}
 use mathlib.Core.List.{List, [], _∷_, _++_}

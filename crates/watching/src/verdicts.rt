@@ -9,7 +9,7 @@ ghost use Prim.Native.Nat.{ℕ, _+_, _*_, _^_, _%_, _<_};
 ghost use Rattle.laws.specs.Tests.{isIn};
 ghost use Rattle.definition.specs.Addresses.{word};
 ghost use Rattle.definition.specs.Readings.{isEvent, isSize};
-ghost use Rattle.watching.specs.Verdicts.{isLength, bytesFrom, storeVerdict, verdictOf, bitsFrom, storeTouched, touchedOf, namedBy, nameAt};
+ghost use Rattle.watching.specs.Verdicts.{isLength, bytesFrom, storeVerdict, verdictOf, storeTouched, touchedOf, nameAt};
 
 // A variable in memory: its first byte's address and its length in bytes.
 pub struct Variable {

@@ -12,8 +12,8 @@ ghost use Prim.Native.Nat.{_≤_, _<_};
 ghost use lib.ListN.{length, take};
 ghost use lib.Dec.{ltb};
 ghost use Rattle.definition.specs.declared.Answer.the-variants.{Done};
-ghost use Rattle.watching.specs.Verdicts.{isLength, verdictOf};
-ghost use Rattle.watching.specs.Tallies.{noTally, tallyOf};
+ghost use Rattle.watching.specs.Verdicts.{verdictOf};
+ghost use Rattle.watching.specs.Tallies.{tallyOf};
 ghost use Rattle.watching.specs.Walks.{eventsIn};
 ghost use Rattle.watching.specs.Traces.{mostPairs, numbered, earlier, later, fresh, newOf, isTaking, further, untaken, taken, stepOf};
 

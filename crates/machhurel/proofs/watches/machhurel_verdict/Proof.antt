@@ -1,16 +1,13 @@
+-- By what is named. Assumes nothing.
+use Prim.Native.Nat.{_-_, _≤_, _<_}
+use native.Mathlib.Omega.{arith}
+use mathlib.Core.Path.{sym, _∙_}
+use denote.Ref.{now}
+use borrow.Author.Needs.{needs}
 use Rattle.watching.specs.Verdicts.{variable}
 use Rattle.machhurel.proofs.Kept.{name-leads}
-use Prim.Native.Nat.{_-_, _≤_, _<_}
-use denote.Ref.{now}
-use mathlib.Core.Path.{sym, _∙_}
-use native.Mathlib.Omega.{arith}
-use borrow.Author.Needs.{needs}
 use Rattle.machhurel.proofs.watches.machhurel_verdict.Statement.{statement}
 use Rattle.machhurel.proofs.watches.machhurel_verdict.Tie as tie
-use Rattle.machhurel.proofs.watches.machhurel_verdict.Reads as reads
-use Rattle.machhurel.proofs.watches.machhurel_verdict.Lts as lts
-use Rattle.machhurel.proofs.bits.verdict_number.Reads as verdict-number-reads
-use Rattle.watching.proofs.name_event.Reads as name-event-reads
 
 -- the place behind an event that was named
 ahead :

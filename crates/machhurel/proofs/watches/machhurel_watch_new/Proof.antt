@@ -1,11 +1,8 @@
+-- By the number. Assumes nothing.
 use borrow.Author.Tests.{eq-eqb, ne-eqb}
 use borrow.Author.Needs.{needs}
 use Rattle.machhurel.proofs.watches.machhurel_watch_new.Statement.{statement}
 use Rattle.machhurel.proofs.watches.machhurel_watch_new.Tie as tie
-use Rattle.machhurel.proofs.watches.machhurel_watch_new.Reads as reads
-use Rattle.machhurel.proofs.watches.machhurel_watch_new.Lts as lts
-use Rattle.machhurel.proofs.watches.words_of.Reads as words-of-reads
-use Rattle.watching.proofs.watch.Watch.new.Reads as new-reads
 
 new-requires : tie.Need-new-requires
 new-requires c κs = search needs

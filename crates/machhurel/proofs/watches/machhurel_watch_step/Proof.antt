@@ -1,20 +1,15 @@
+-- The step of the watch that the words are. Assumes nothing.
+use mathlib.Core.Path.{_≡_, ap, _∙_}
+use denote.Ref.{now}
+use borrow.Author.Needs.{needs}
 use Rattle.machhurel.specs.Answers.{steppedBits}
 use Rattle.machhurel.specs.Words.{watchIn, wordsOf}
 use Rattle.watching.specs.declared.watch.Stepped.{Stepped}
 use Rattle.watching.specs.declared.watch.Watch.{Watch}
 use Rattle.watching.specs.Traces.{stepOf}
-use denote.Ref.{now}
-use mathlib.Core.Path.{_≡_, ap, _∙_}
 use Rattle.machhurel.proofs.Kept.{step-few}
-use borrow.Author.Needs.{needs}
 use Rattle.machhurel.proofs.watches.machhurel_watch_step.Statement.{statement}
 use Rattle.machhurel.proofs.watches.machhurel_watch_step.Tie as tie
-use Rattle.machhurel.proofs.watches.machhurel_watch_step.Reads as reads
-use Rattle.machhurel.proofs.watches.machhurel_watch_step.Lts as lts
-use Rattle.machhurel.proofs.bits.stepped_bits.Reads as stepped-bits-reads
-use Rattle.machhurel.proofs.watches.watch_in.Reads as watch-in-reads
-use Rattle.machhurel.proofs.watches.words_of.Reads as words-of-reads
-use Rattle.watching.proofs.watch.Watch.step.Reads as step-reads
 
 -- the step of the watch that the words are
 stepped :

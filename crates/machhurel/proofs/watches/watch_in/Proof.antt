@@ -1,10 +1,8 @@
-use Rattle.machhurel.specs.Words.{watchIn}
+-- Word by word. Assumes nothing.
 use borrow.Author.Needs.{needs}
+use Rattle.machhurel.specs.Words.{watchIn}
 use Rattle.machhurel.proofs.watches.watch_in.Statement.{statement}
 use Rattle.machhurel.proofs.watches.watch_in.Tie as tie
-use Rattle.machhurel.proofs.watches.watch_in.Reads as reads
-use Rattle.machhurel.proofs.watches.watch_in.Lts as lts
-use Rattle.machhurel.proofs.watches.when_in.Reads as when-in-reads
 
 element-copy-out-when-in : tie.Need-element-copy-out-when-in
 element-copy-out-when-in c = search needs

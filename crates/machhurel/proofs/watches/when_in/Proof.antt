@@ -1,8 +1,7 @@
+-- By the word. Assumes nothing.
 use borrow.Author.Tests.{eq-eqb, ne-eqb}
 use Rattle.machhurel.proofs.watches.when_in.Statement.{statement}
 use Rattle.machhurel.proofs.watches.when_in.Tie as tie
-use Rattle.machhurel.proofs.watches.when_in.Reads as reads
-use Rattle.machhurel.proofs.watches.when_in.Lts as lts
 
 returns : tie.Need-returns
 returns c = rw (eq-eqb (c .before .args .word) _ (c .if1 .taken))

@@ -1,10 +1,8 @@
-use Rattle.machhurel.specs.Words.{wordsOf}
+-- Word by word. Assumes nothing.
 use borrow.Author.Needs.{needs}
+use Rattle.machhurel.specs.Words.{wordsOf}
 use Rattle.machhurel.proofs.watches.words_of.Statement.{statement}
 use Rattle.machhurel.proofs.watches.words_of.Tie as tie
-use Rattle.machhurel.proofs.watches.words_of.Reads as reads
-use Rattle.machhurel.proofs.watches.words_of.Lts as lts
-use Rattle.machhurel.proofs.watches.when_word.Reads as when-word-reads
 
 when-word-requires : tie.Need-when-word-requires
 when-word-requires c κs = search needs

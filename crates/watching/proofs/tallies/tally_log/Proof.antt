@@ -1,13 +1,11 @@
 -- The invariant: the whole tally is what was counted and that of the events from the place on. Each event ends further on, so the walk
 -- does, and no count passes the place. Assumes nothing.
-use Prim.Native.Nat.{ℕ, _+_, _-_, _^_, _≤_, _<_, zero-le}
+use Prim.Native.Nat.{_-_, _^_, _≤_, _<_, zero-le}
 use native.Mathlib.Omega.{arith}
-use mathlib.Core.Path.{_≡_, sym, ap, _∙_, subst}
-use mathlib.Core.List.{List, map}
+use mathlib.Core.Path.{_≡_, sym, _∙_, subst}
+use mathlib.Core.List.{map}
 use lib.ListN.{length}
 use borrow.Author.Needs.{needs}
-use Rattle.definition.specs.declared.Event.{Event}
-use Rattle.definition.specs.declared.Reading.{Reading}
 use Rattle.definition.specs.declared.Reading.the-variants.{Found}
 use Rattle.definition.specs.Readings.{readAt}
 use Rattle.event.proofs.Fronts.{Moves, goes-on}

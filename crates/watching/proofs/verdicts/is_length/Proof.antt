@@ -1,8 +1,7 @@
+-- Both tests, or the first that fails. Assumes nothing.
 use borrow.Author.Tests.{le-leb, lt-leb}
 use Rattle.watching.proofs.verdicts.is_length.Statement.{statement}
 use Rattle.watching.proofs.verdicts.is_length.Tie as tie
-use Rattle.watching.proofs.verdicts.is_length.Reads as reads
-use Rattle.watching.proofs.verdicts.is_length.Lts as lts
 
 returns : tie.Need-returns
 returns c = simp (le-leb _ _ (c .if1 .taken))

@@ -1,18 +1,13 @@
+-- By what is read. Assumes nothing.
+use mathlib.Core.Bool.{true}
+use mathlib.Core.Path.{_≡_, sym, _∙_}
+use denote.Ref.{now}
+use borrow.Author.Needs.{needs}
 use Rattle.watching.specs.Verdicts.{isLength}
 use Rattle.definition.specs.declared.Reading.the-variants.{Found, Bad, Finished}
-use mathlib.Core.Bool.{true}
-use denote.Ref.{now}
-use mathlib.Core.Path.{_≡_, sym, _∙_}
 use Rattle.watching.proofs.Walks.{read-good, named, unnamed}
-use borrow.Author.Needs.{needs}
 use Rattle.watching.proofs.verdicts.name_event.Statement.{statement}
 use Rattle.watching.proofs.verdicts.name_event.Tie as tie
-use Rattle.watching.proofs.verdicts.name_event.Reads as reads
-use Rattle.watching.proofs.verdicts.name_event.Lts as lts
-use Rattle.event.proofs.read_event.Reads as read-event-reads
-use Rattle.watching.proofs.verdicts.is_length.Reads as is-length-reads
-use Rattle.watching.proofs.verdicts.touched_by.Reads as touched-by-reads
-use Rattle.watching.proofs.verdicts.verdict_on.Reads as verdict-on-reads
 
 -- the length was found good
 good : (c : tie.Then1) → isLength (c .before .before .before .args .v .length) ≡ true

@@ -1,11 +1,9 @@
+-- The two distances decide, case by case. Assumes nothing.
 use mathlib.Core.Path.{_≡_}
-use Rattle.watching.proofs.Overlap.{behind, subtracted, store-whole, store-front, store-back, store-none}
 use borrow.Author.Needs.{needs}
+use Rattle.watching.proofs.Overlap.{behind, subtracted, store-whole, store-front, store-back, store-none}
 use Rattle.watching.proofs.verdicts.store_verdict.Statement.{statement}
 use Rattle.watching.proofs.verdicts.store_verdict.Tie as tie
-use Rattle.watching.proofs.verdicts.store_verdict.Reads as reads
-use Rattle.watching.proofs.verdicts.store_verdict.Lts as lts
-use Rattle.std.proofs.num.wrapping_sub_u64.Reads as wrapping-sub-u64-reads
 
 -- the two distances
 after : (c : tie.After-wrapping-sub-u64) → let x = c .before .args in c .wrapping-sub-u64 .result ≡ behind (x .v .address) (x .a)

@@ -1,10 +1,8 @@
-use Rattle.watching.specs.Verdicts as defined
+-- By cases on the event. Assumes nothing.
 use borrow.Author.Needs.{needs}
+use Rattle.watching.specs.Verdicts as defined
 use Rattle.watching.proofs.verdicts.touched_by.Statement.{statement}
 use Rattle.watching.proofs.verdicts.touched_by.Tie as tie
-use Rattle.watching.proofs.verdicts.touched_by.Reads as reads
-use Rattle.watching.proofs.verdicts.touched_by.Lts as lts
-use Rattle.watching.proofs.verdicts.store_touched.Reads as store-touched-reads
 
 enum-told : tie.Need-enum-told
 enum-told c = search needs

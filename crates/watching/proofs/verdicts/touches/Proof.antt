@@ -1,11 +1,8 @@
-use Rattle.watching.proofs.Overlap.{touching}
+-- The distance decides. Assumes nothing.
 use borrow.Author.Needs.{needs}
+use Rattle.watching.proofs.Overlap.{touching}
 use Rattle.watching.proofs.verdicts.touches.Statement.{statement}
 use Rattle.watching.proofs.verdicts.touches.Tie as tie
-use Rattle.watching.proofs.verdicts.touches.Reads as reads
-use Rattle.watching.proofs.verdicts.touches.Lts as lts
-use Rattle.std.proofs.num.wrapping_add_u64.Reads as wrapping-add-u64-reads
-use Rattle.std.proofs.num.wrapping_sub_u64.Reads as wrapping-sub-u64-reads
 
 wrapping-add-u64-requires : tie.Need-wrapping-add-u64-requires
 wrapping-add-u64-requires c κs = search needs

@@ -1,11 +1,9 @@
+-- By cases on the event. Assumes nothing.
+use borrow.Author.Needs.{needs}
 use Rattle.definition.specs.Readings.{isEvent}
 use Rattle.watching.specs.Verdicts as defined
-use borrow.Author.Needs.{needs}
 use Rattle.watching.proofs.verdicts.verdict_on.Statement.{statement}
 use Rattle.watching.proofs.verdicts.verdict_on.Tie as tie
-use Rattle.watching.proofs.verdicts.verdict_on.Reads as reads
-use Rattle.watching.proofs.verdicts.verdict_on.Lts as lts
-use Rattle.watching.proofs.verdicts.store_verdict.Reads as store-verdict-reads
 
 enum-told : tie.Need-enum-told
 enum-told c = search needs

@@ -1,9 +1,8 @@
+-- By the low bit. Assumes nothing.
 use native.Mathlib.Omega.{arith}
 use borrow.Author.Needs.{needs}
 use Rattle.watching.proofs.verdicts.with_low.Statement.{statement}
 use Rattle.watching.proofs.verdicts.with_low.Tie as tie
-use Rattle.watching.proofs.verdicts.with_low.Reads as reads
-use Rattle.watching.proofs.verdicts.with_low.Lts as lts
 
 mul-result : tie.Need-mul-result
 mul-result c = search needs

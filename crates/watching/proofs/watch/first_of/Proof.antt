@@ -1,9 +1,7 @@
+-- By cases on the old number. Assumes nothing.
 use borrow.Author.Needs.{needs}
 use Rattle.watching.proofs.watch.first_of.Statement.{statement}
 use Rattle.watching.proofs.watch.first_of.Tie as tie
-use Rattle.watching.proofs.watch.first_of.Reads as reads
-use Rattle.watching.proofs.watch.first_of.Lts as lts
-use Rattle.watching.proofs.watch.number_if.Reads as number-if-reads
 
 enum-known-old : tie.Need-enum-known-old
 enum-known-old c = search needs

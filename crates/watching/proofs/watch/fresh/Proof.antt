@@ -1,10 +1,8 @@
-use Rattle.watching.specs.Traces as defined
+-- As in the definition. Assumes nothing.
 use borrow.Author.Needs.{needs}
+use Rattle.watching.specs.Traces as defined
 use Rattle.watching.proofs.watch.fresh.Statement.{statement}
 use Rattle.watching.proofs.watch.fresh.Tie as tie
-use Rattle.watching.proofs.watch.fresh.Reads as reads
-use Rattle.watching.proofs.watch.fresh.Lts as lts
-use Rattle.watching.proofs.tallies.Tally.zero.Reads as zero-reads
 
 zero-requires : tie.Need-zero-requires
 zero-requires c κs = search needs

@@ -1,8 +1,7 @@
+-- By the test. Assumes nothing.
 use borrow.Author.Tests.{lt-ltb, le-ltb}
 use Rattle.watching.proofs.watch.last_of.Statement.{statement}
 use Rattle.watching.proofs.watch.last_of.Tie as tie
-use Rattle.watching.proofs.watch.last_of.Reads as reads
-use Rattle.watching.proofs.watch.last_of.Lts as lts
 
 returns : tie.Need-returns
 returns c = rw (lt-ltb 0 (c .before .args .some) (c .if1 .taken))

@@ -1,8 +1,7 @@
+-- By the test. Assumes nothing.
 use borrow.Author.Tests.{lt-ltb, le-ltb}
 use Rattle.watching.proofs.watch.number_if.Statement.{statement}
 use Rattle.watching.proofs.watch.number_if.Tie as tie
-use Rattle.watching.proofs.watch.number_if.Reads as reads
-use Rattle.watching.proofs.watch.number_if.Lts as lts
 
 returns : tie.Need-returns
 returns c = rw (lt-ltb 0 (c .before .args .some) (c .if1 .taken))

@@ -1,9 +1,8 @@
-use Rattle.watching.specs.Tallies as defined
+-- By cases on the verdict. Assumes nothing.
 use borrow.Author.Needs.{needs}
+use Rattle.watching.specs.Tallies as defined
 use Rattle.watching.proofs.tallies.Tally.counting.Statement.{statement}
 use Rattle.watching.proofs.tallies.Tally.counting.Tie as tie
-use Rattle.watching.proofs.tallies.Tally.counting.Reads as reads
-use Rattle.watching.proofs.tallies.Tally.counting.Lts as lts
 
 enum-told : tie.Need-enum-told
 enum-told c = search needs

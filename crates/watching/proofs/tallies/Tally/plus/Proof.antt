@@ -1,11 +1,9 @@
+-- Count by count. Assumes nothing.
+use borrow.Author.Needs.{needs}
 use Rattle.watching.proofs.Sums.{tally-is}
 use Rattle.watching.specs.Tallies as defined
-use borrow.Author.Needs.{needs}
 use Rattle.watching.proofs.tallies.Tally.plus.Statement.{statement}
 use Rattle.watching.proofs.tallies.Tally.plus.Tie as tie
-use Rattle.watching.proofs.tallies.Tally.plus.Reads as reads
-use Rattle.watching.proofs.tallies.Tally.plus.Lts as lts
-use Rattle.std.proofs.num.wrapping_add_u64.Reads as wrapping-add-u64-reads
 
 wrapping-add-u64-requires : tie.Need-wrapping-add-u64-requires
 wrapping-add-u64-requires c κs = search needs

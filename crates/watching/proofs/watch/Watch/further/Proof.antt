@@ -1,13 +1,8 @@
-use Rattle.watching.specs.Traces as defined
+-- Each part as in the definition. Assumes nothing.
 use borrow.Author.Needs.{needs}
+use Rattle.watching.specs.Traces as defined
 use Rattle.watching.proofs.watch.Watch.further.Statement.{statement}
 use Rattle.watching.proofs.watch.Watch.further.Tie as tie
-use Rattle.watching.proofs.watch.Watch.further.Reads as reads
-use Rattle.watching.proofs.watch.Watch.further.Lts as lts
-use Rattle.std.proofs.num.wrapping_add_u64.Reads as wrapping-add-u64-reads
-use Rattle.watching.proofs.tallies.Tally.plus.Reads as plus-reads
-use Rattle.watching.proofs.watch.first_of.Reads as first-of-reads
-use Rattle.watching.proofs.watch.last_of.Reads as last-of-reads
 
 plus-requires : tie.Need-plus-requires
 plus-requires c κs = search needs

@@ -1,10 +1,8 @@
-use Rattle.watching.specs.Traces as defined
+-- Both tests, or the first that fails. Assumes nothing.
 use borrow.Author.Needs.{needs}
+use Rattle.watching.specs.Traces as defined
 use Rattle.watching.proofs.watch.Watch.is_taking.Statement.{statement}
 use Rattle.watching.proofs.watch.Watch.is_taking.Tie as tie
-use Rattle.watching.proofs.watch.Watch.is_taking.Reads as reads
-use Rattle.watching.proofs.watch.Watch.is_taking.Lts as lts
-use Rattle.watching.proofs.verdicts.is_length.Reads as is-length-reads
 
 is-length-requires : tie.Need-is-length-requires
 is-length-requires c κs = search needs

@@ -1,12 +1,9 @@
-use Rattle.watching.proofs.Steps.{taking-length, taking-pairs}
-use lib.Seq.{length-take-le}
+-- The part that was written is tallied. Assumes nothing.
 use mathlib.Core.Path.{sym}
+use lib.Seq.{length-take-le}
+use Rattle.watching.proofs.Steps.{taking-length, taking-pairs}
 use Rattle.watching.proofs.watch.Watch.logged.Statement.{statement}
 use Rattle.watching.proofs.watch.Watch.logged.Tie as tie
-use Rattle.watching.proofs.watch.Watch.logged.Reads as reads
-use Rattle.watching.proofs.watch.Watch.logged.Lts as lts
-use Rattle.watching.proofs.tallies.tally_log.Reads as tally-log-reads
-use Rattle.watching.proofs.watch.Watch.taken.Reads as taken-reads
 
 slice-aggregate-tally-log : tie.Need-slice-aggregate-tally-log
 slice-aggregate-tally-log c = sym (length-take-le (c .before .before .args .n) (c .before .before .args .log .now) (c .before .before .pre .1))

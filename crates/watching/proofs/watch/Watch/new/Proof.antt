@@ -1,11 +1,8 @@
-use Rattle.watching.specs.Traces as defined
+-- By the length. Assumes nothing.
 use borrow.Author.Needs.{needs}
+use Rattle.watching.specs.Traces as defined
 use Rattle.watching.proofs.watch.Watch.new.Statement.{statement}
 use Rattle.watching.proofs.watch.Watch.new.Tie as tie
-use Rattle.watching.proofs.watch.Watch.new.Reads as reads
-use Rattle.watching.proofs.watch.Watch.new.Lts as lts
-use Rattle.watching.proofs.verdicts.is_length.Reads as is-length-reads
-use Rattle.watching.proofs.watch.fresh.Reads as fresh-reads
 
 is-length-requires : tie.Need-is-length-requires
 is-length-requires c κs = search needs

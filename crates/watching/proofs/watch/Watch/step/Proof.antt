@@ -1,19 +1,12 @@
+-- The limit, then what visiting answered. Assumes nothing.
+use mathlib.Core.Bool.{true}
+use mathlib.Core.Path.{_≡_, sym, _∙_}
+use denote.Ref.{now}
+use borrow.Author.Needs.{needs}
 use Rattle.watching.specs.Traces.{isTaking}
 use Rattle.watching.proofs.Steps.{taking-pairs, step-refused, step-logged, step-untaken, fits}
-use mathlib.Core.Bool.{true}
-use denote.Ref.{now}
-use mathlib.Core.Path.{_≡_, sym, _∙_}
-use borrow.Author.Needs.{needs}
 use Rattle.watching.proofs.watch.Watch.step.Statement.{statement}
 use Rattle.watching.proofs.watch.Watch.step.Tie as tie
-use Rattle.watching.proofs.watch.Watch.step.Reads as reads
-use Rattle.watching.proofs.watch.Watch.step.Lts as lts
-use Rattle.visiting.proofs.visit_accesses.Reads as visit-accesses-reads
-use Rattle.watching.proofs.tallies.Tally.zero.Reads as zero-reads
-use Rattle.watching.proofs.watch.Watch.is_taking.Reads as is-taking-reads
-use Rattle.watching.proofs.watch.Watch.logged.Reads as logged-reads
-use Rattle.watching.proofs.watch.Watch.taken.Reads as taken-reads
-use Rattle.watching.proofs.watch.Watch.untaken.Reads as untaken-reads
 
 -- the watch takes the pair
 taking : (c : tie.Then1) → isTaking (c .before .before .before .before .args .self) ≡ true

@@ -1,10 +1,8 @@
-use Rattle.watching.specs.Traces as defined
+-- As in the definition. Assumes nothing.
 use borrow.Author.Needs.{needs}
+use Rattle.watching.specs.Traces as defined
 use Rattle.watching.proofs.watch.Watch.taken.Statement.{statement}
 use Rattle.watching.proofs.watch.Watch.taken.Tie as tie
-use Rattle.watching.proofs.watch.Watch.taken.Reads as reads
-use Rattle.watching.proofs.watch.Watch.taken.Lts as lts
-use Rattle.watching.proofs.watch.Watch.further.Reads as further-reads
 
 further-requires : tie.Need-further-requires
 further-requires c κs = search needs
