@@ -10,6 +10,7 @@ use Rattle.watching.specs.declared.watch.When.{When}
 use Rattle.watching.specs.declared.watch.When.the-variants.{Never, At}
 use Rattle.watching.specs.declared.watch.Watch.{Watch}
 use Rattle.watching.specs.declared.watch.WatchAnswer.{WatchAnswer}
+use Rattle.watching.specs.declared.watch.WatchAnswer.the-variants.{Done, Refused}
 
 abbrev pub never : ℕ
 never = 2 ^ 64 - 1
@@ -40,4 +41,5 @@ wordsOf w =
 
 -- a new watch's number and words; refused, the old words stay
 abbrev pub newWords : WatchAnswer → List ℕ → ℕ × List ℕ
-newWords a old = cond (eqb (a .number) 0) (0, wordsOf (a .watch)) (a .number, old)
+newWords (Done w) old = (0, wordsOf w)
+newWords (Refused k) old = (k, old)

@@ -5,6 +5,7 @@ use watching::Naming;
 use watching::Tally;
 use watching::Variable;
 use watching::Watch;
+use watching::WatchAnswer;
 use watching::When;
 ghost use mathlib.Core.Path.{_≡_};
 ghost use Rattle.watching.specs.Verdicts.{variable, nameAt};
@@ -82,12 +83,13 @@ pub extern "C" fn machhurel_watch_new(watch: &mut [u64; 10], address: u64, lengt
     ensures { λ r. ⌜ (r, now (watch .exit)) ≡ newWords (newOf address length) (now (watch .entry)) ⌝ }
 {
     let made = Watch::new(address, length);
-    if made.number != 0 {
-        return made.number as u64;
+    match made {
+        WatchAnswer::Done(fresh) => {
+            *watch = words_of(fresh);
+            0
+        }
+        WatchAnswer::Refused(number) => number as u64,
     }
-    let fresh = made.watch;
-    *watch = words_of(fresh);
-    0
 }
 
 #[no_mangle]

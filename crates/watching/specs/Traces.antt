@@ -20,6 +20,7 @@ use Rattle.watching.specs.declared.watch.When.{When}
 use Rattle.watching.specs.declared.watch.When.the-variants.{Never, At}
 use Rattle.watching.specs.declared.watch.Watch.{Watch}
 use Rattle.watching.specs.declared.watch.WatchAnswer.{WatchAnswer}
+use Rattle.watching.specs.declared.watch.WatchAnswer.the-variants as made
 use Rattle.watching.specs.declared.watch.Stepped.{Stepped}
 
 -- a record's bytes and a register file's
@@ -67,10 +68,7 @@ unfoldable pub fresh : Variable → Watch
 fresh v = record { variable = v; pairs = 0; tally = noTally; refused = 0; first = Never; last = Never }
 
 unfoldable pub newOf : ℕ → ℕ → WatchAnswer
-newOf a n =
-    cond (isLength n)
-    (record { number = 0; watch = fresh (variable a n) })
-    (record { number = 2; watch = fresh (variable 0 0) })
+newOf a n = cond (isLength n) (made.Done (fresh (variable a n))) (made.Refused 2)
 
 -- a pair is taken where the variable has a length that there is, and the limit is not reached
 unfoldable pub isTaking : Watch → Bool

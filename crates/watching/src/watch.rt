@@ -37,10 +37,10 @@ pub struct Watch {
     pub last: When,
 }
 
-// A new watch, or refusal 2 and a watch that is all 0.
-pub struct WatchAnswer {
-    pub number: u8,
-    pub watch: Watch,
+// What a new watch answers: the watch, or a refusal number.
+pub enum WatchAnswer {
+    Done(Watch),
+    Refused(u8),
 }
 
 // What a step gives: 0, or 2 where the pair was not taken; what visiting the pair answered; its own write events by verdict; the watch
@@ -104,21 +104,9 @@ impl Watch {
                 address: address,
                 length: length,
             };
-            let w = fresh(v);
-            WatchAnswer {
-                number: 0,
-                watch: w,
-            }
+            WatchAnswer::Done(fresh(v))
         } else {
-            let v = Variable {
-                address: 0,
-                length: 0,
-            };
-            let w = fresh(v);
-            WatchAnswer {
-                number: 2,
-                watch: w,
-            }
+            WatchAnswer::Refused(2)
         }
     }
 

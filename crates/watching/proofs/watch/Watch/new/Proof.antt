@@ -10,17 +10,13 @@ is-length-requires c κs = search needs
 fresh-requires : tie.Need-fresh-requires
 fresh-requires c κs = search needs
 
-fresh-requires-2 : tie.Need-fresh-requires-2
-fresh-requires-2 c κs = search needs
-
 returns : tie.Need-returns
 unfolding defined.newOf
 returns c = rw (← (c .before .before .is-length .ensures), c .before .if1 .taken, c .fresh .ensures)
 
 returns-2 : tie.Need-returns-2
 unfolding defined.newOf
-returns-2 c = rw (← (c .before .before .is-length .ensures), c .before .if1 .left, c .fresh2 .ensures)
+returns-2 c = rw (← (c .before .is-length .ensures), c .if1 .left)
 
 pub new-spec : {M : Type 1} → statement M
-new-spec =
-    tie.close (tie.spec is-length-requires fresh-requires fresh-requires-2 returns returns-2)
+new-spec = tie.close (tie.spec is-length-requires fresh-requires returns returns-2)
