@@ -2,8 +2,8 @@
  * Machhurel: which registers and which memory an x86-64 instruction touched, in order.
  *
  * Every call takes bytes and answers one 64-bit number. Any bytes at any length get an answer: no call fails, traps, allocates or keeps
- * anything, and calls may run on any thread at once as long as no two write the same buffer. A pointer may be NULL where its length is 0.
- * Otherwise it points to that many bytes, and a buffer that is written overlaps no other argument.
+ * anything, and calls may run on any thread at once as long as no two write the same buffer or watch. A pointer may be NULL where its
+ * length is 0. Otherwise it points to that many bytes, and a buffer or a watch that is written overlaps no other argument.
  *
  * Records are 40 bytes of kind 0x10, register files 141 bytes of kind 0x20; numbers are little-endian. docs/FORMAT.md has every
  * field, table and rule.
@@ -19,7 +19,8 @@
  * of its answer is 0:
  *
  *   1  the record is not 40 bytes of kind 0x10; in a log: an unknown kind, or an event cut short
- *   2  a field of the record is outside its table; in a log: a bad register, or a size outside 1 to 64
+ *   2  a field of the record is outside its table; in a log: a bad register, or a size outside 1 to 64; of a watch: a length outside
+ *      1 to 8, or a pair past the limit
  *   3  the file is not 141 bytes of kind 0x20, or a known bit above 16 is set
  *   4  the instruction is complex: its accesses are not a plain list. The answer carries the opcode
  *   5  an operand that is accessed names no register or memory, or a string list names no string slot
@@ -69,7 +70,41 @@ extern "C" {
 #define MACHHUREL_FINISHED 255
 
 /* machhurel_difference: the sign, 1 where the logs differ. */
-#define MACHHUREL_DIFFERS(answer) ((unsigned)(((answer) >> 8) & 1))
+#define MACHHUREL_DIFFERS(answer) MACHHUREL_CAST(unsigned, (((answer) >> 8) & 1))
+
+/*
+ * A watched variable, and what the pairs of a trace did to it so far. Pairs are numbered from 0. machhurel_watch_new writes it, and
+ * machhurel_watch_step goes on with it. Any words at all get an answer; from machhurel_watch_new on no count wraps.
+ */
+typedef struct machhurel_watch {
+    uint64_t address;
+    uint64_t length;  /* 1 to 8 bytes */
+    uint64_t pairs;   /* taken so far, refused ones among them */
+    uint64_t unknown; /* write events at an unknown address */
+    uint64_t none;    /* write events that touched none of the variable's bytes, */
+    uint64_t part;    /* part of them, */
+    uint64_t whole;   /* or all of them */
+    uint64_t refused; /* pairs that visiting refuses: each may have written the variable */
+    uint64_t first;   /* the number of the first pair with a part write, or MACHHUREL_NEVER */
+    uint64_t last;    /* the number of the last pair with a whole write, or MACHHUREL_NEVER */
+} machhurel_watch;
+
+#define MACHHUREL_NEVER UINT64_MAX
+
+/* A watch takes no more pairs. */
+#define MACHHUREL_WATCH_PAIRS 1000000
+
+/* machhurel_watch_step: visiting's number for the pair and its opcode after 4; the pair's own write events. */
+#define MACHHUREL_VISITED(answer) MACHHUREL_CAST(unsigned, (((answer) >> 8) & 0xFF))
+#define MACHHUREL_VISITED_OPCODE(answer) MACHHUREL_CAST(uint16_t, ((answer) >> 48))
+#define MACHHUREL_UNKNOWN(answer) MACHHUREL_CAST(unsigned, (((answer) >> 16) & 0xFF))
+#define MACHHUREL_NONE(answer) MACHHUREL_CAST(unsigned, (((answer) >> 24) & 0xFF))
+#define MACHHUREL_PART(answer) MACHHUREL_CAST(unsigned, (((answer) >> 32) & 0xFF))
+#define MACHHUREL_WHOLE(answer) MACHHUREL_CAST(unsigned, (((answer) >> 40) & 0xFF))
+
+/* machhurel_verdict: 0 no memory write, 1 unknown address, 2 none, 3 part, 4 whole; and bit i for byte i of the variable. */
+#define MACHHUREL_VERDICT(answer) MACHHUREL_CAST(unsigned, (((answer) >> 8) & 0xFF))
+#define MACHHUREL_TOUCHED(answer) MACHHUREL_CAST(uint8_t, (((answer) >> 16) & 0xFF))
 
 /*
  * Writes the log of the record under the register file into log[start..], and answers its length in MACHHUREL_COUNT. Refuses 1 to 7. With
@@ -109,6 +144,22 @@ uint64_t machhurel_event(const uint8_t *log, size_t log_len, size_t at);
  */
 uint64_t machhurel_difference(const uint8_t *first, size_t first_len, const uint8_t *second, size_t second_len,
                               uint64_t *at);
+
+/* A new watch of the `length` bytes from `address` on, byte addresses modulo two to the 64. Refuses 2 for another length than 1 to 8. */
+uint64_t machhurel_watch_new(machhurel_watch *watch, uint64_t address, uint64_t length);
+
+/*
+ * The next pair of a trace: visits the record under the file, and gives each memory write event its verdict. A pair that visiting refuses
+ * is counted in `refused`, keeps its number and changes nothing else: MACHHUREL_NUMBER is 0 and MACHHUREL_VISITED is visiting's number.
+ * Refuses 2 past MACHHUREL_WATCH_PAIRS, before the pair is looked at, and where the watch's length is not 1 to 8; then nothing changes.
+ */
+uint64_t machhurel_watch_step(machhurel_watch *watch, const uint8_t *record, size_t record_len, const uint8_t *file, size_t file_len);
+
+/*
+ * The verdict on the event at log[at..] against a variable, by the same definition: MACHHUREL_VERDICT, MACHHUREL_TOUCHED, and the event's
+ * length in MACHHUREL_COUNT. Refuses 2 for another length than 1 to 8; then answers as machhurel_event does: 1, 2, MACHHUREL_FINISHED.
+ */
+uint64_t machhurel_verdict(uint64_t address, uint64_t length, const uint8_t *log, size_t log_len, size_t at);
 
 #ifdef __cplusplus
 }

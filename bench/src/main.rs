@@ -1,7 +1,7 @@
 //! Visits the same records by the given Rust and by the library, in interleaved rounds, and prints medians.
 //!
-//! `bench [--records N] [--rounds R] [--seed S]` compares; `bench --count rust|ours|none --input mixed|everyday` runs one side
-//! once, for a tool that counts instructions (`none` makes the input and visits nothing).
+//! `bench [--records N] [--rounds R] [--seed S]` compares; `bench --count rust|ours|watch|none --input mixed|everyday` runs one side
+//! once, for a tool that counts instructions (`watch` steps a watch over the pairs; `none` makes the input and visits nothing).
 
 mod everyday;
 mod inputs;
@@ -68,6 +68,7 @@ fn main() {
         let total = match side.as_str() {
             "rust" => pass(&input, theirs::visit),
             "ours" => pass(&input, ours::visit),
+            "watch" => ours::watch(&input),
             _ => 0,
         };
         println!("{total}");

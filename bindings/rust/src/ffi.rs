@@ -1,7 +1,7 @@
 //! The C interface itself, for callers that want the bits of an answer: include/machhurel.h says which bits hold what.
 //!
-//! Each pointer and length must be those of one slice, and a pointer alone that of one number; that is all that a call
-//! asks.
+//! Each pointer and length must be those of one slice, a pointer alone that of one number, and a watch ten words that nobody
+//! else writes; that is all that a call asks.
 #![allow(missing_docs)]
 
 extern "C" {
@@ -31,5 +31,20 @@ extern "C" {
         second: *const u8,
         second_len: usize,
         at: *mut u64,
+    ) -> u64;
+    pub fn machhurel_watch_new(watch: *mut [u64; 10], address: u64, length: u64) -> u64;
+    pub fn machhurel_watch_step(
+        watch: *mut [u64; 10],
+        record: *const u8,
+        record_len: usize,
+        file: *const u8,
+        file_len: usize,
+    ) -> u64;
+    pub fn machhurel_verdict(
+        address: u64,
+        length: u64,
+        log: *const u8,
+        log_len: usize,
+        at: usize,
     ) -> u64;
 }

@@ -46,6 +46,7 @@ mod record;
 mod refusal;
 mod register;
 mod spec;
+mod watch;
 
 pub use access::Access;
 pub use calls::{
@@ -63,6 +64,7 @@ pub use record::{Record, RecordBuilder};
 pub use refusal::{Refusal, RefusedRecord};
 pub use register::{bank_name, Register, BANK_COUNT};
 pub use spec::Spec;
+pub use watch::{verdict, Named, Names, Step, Tally, Verdict, Watch, WATCH_PAIRS};
 
 /// The bytes of a record.
 pub const RECORD_BYTES: usize = 40;

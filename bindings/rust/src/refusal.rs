@@ -7,7 +7,8 @@ use core::fmt;
 pub enum Refusal {
     /// 1: not 40 bytes of kind 0x10; in a log, an unknown kind or an event cut short.
     Form,
-    /// 2: a field outside its table; in a log, a bad register or a size outside 1 to 64.
+    /// 2: a field outside its table; in a log, a bad register or a size outside 1 to 64; of a watch, a length outside 1 to 8 or a pair
+    /// past the limit.
     Field,
     /// 3: the register file is not 141 bytes of kind 0x20, or knows a register that there is not.
     File,

@@ -12,6 +12,11 @@ use Rattle.definition.specs.Behaviors.{privilegeNumber, privilegeIn}
 use Rattle.definition.specs.Visits.{numberOf, opcodeOf, countOf}
 use Rattle.definition.specs.Readings.{readingNumber}
 use Rattle.definition.specs.declared.Answer.{Answer}
+use Rattle.watching.specs.Verdicts.{verdictNumber}
+use Rattle.watching.specs.declared.verdicts.Naming.{Naming}
+use Rattle.watching.specs.declared.verdicts.Naming.the-variants.{Named, Unnamed, Ended}
+use Rattle.watching.specs.declared.tallies.Tally.{Tally}
+use Rattle.watching.specs.declared.watch.Stepped.{Stepped}
 use Rattle.definition.specs.declared.PrivilegeAnswer.{PrivilegeAnswer}
 use Rattle.definition.specs.declared.Reading.{Reading}
 use Rattle.definition.specs.declared.Reading.the-variants.{Found, Bad, Finished}
@@ -51,3 +56,18 @@ eventBits place r = readingNumber r + at 32 (lengthFrom place r)
 -- difference: 0-7 number, 8 the sign (1 different); the place where the part begins stands in a word beside it
 abbrev pub differenceBits : Parted → ℕ
 differenceBits p = p .number + at 8 (cond (p .differs) 1 0)
+
+-- watch_step: 0-7 number, 8-15 visiting's number for the pair, 16-47 a byte for each count of the pair's write events, unknown, none,
+-- part, whole, 48-63 the opcode after visiting's 4
+abbrev pub tallyBits : Tally → ℕ
+tallyBits t = t .unknown + at 8 (t .none) + at 16 (t .part) + at 24 (t .whole)
+
+abbrev pub steppedBits : Stepped → ℕ
+steppedBits s = s .number + at 8 (numberOf (s .visit)) + at 16 (tallyBits (s .tally)) + at 48 (opcodeOf (s .visit))
+
+-- verdict: 0-7 number (255 finished), 8-15 the verdict's number, 16-23 a bit for each byte of the variable that was written, 32-63 the
+-- event's length in bytes
+abbrev pub namingBits : ℕ → Naming → ℕ
+namingBits place (Named v touched next) = at 8 (verdictNumber v) + at 16 touched + at 32 (next - place)
+namingBits place (Unnamed k) = k
+namingBits place Ended = 255

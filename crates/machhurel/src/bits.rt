@@ -1,13 +1,19 @@
 // The parts of an answer, each at its bit.
 ghost use mathlib.Core.Path.{_≡_};
 ghost use Prim.Native.Nat.{_^_, _<_};
-ghost use Rattle.definition.specs.Visits.{countOf};
+ghost use Rattle.definition.specs.Visits.{numberOf, opcodeOf, countOf};
+ghost use Rattle.watching.specs.Tallies.{total};
+ghost use Rattle.watching.specs.Verdicts.{verdictNumber};
 ghost use Rattle.machhurel.specs.Answers.{answerBits, digestBits, privilegeBits, exceptionBits, differenceBits};
+ghost use Rattle.machhurel.specs.Answers.{tallyBits, steppedBits};
 use access::InfoAnswer;
 use definition::Answer;
 use definition::PrivilegeAnswer;
 use difference::Parted;
 use digest::DigestAnswer;
+use watching::Stepped;
+use watching::Tally;
+use watching::Verdict;
 
 pub fn answer_bits(a: Answer) -> u64
     requires { ⌜ countOf a < 2 ^ 32 ⌝ }
@@ -60,4 +66,58 @@ pub fn difference_bits(p: Parted) -> u64
         return number + 0x100;
     }
     number
+}
+
+fn number_of(a: Answer) -> u8
+    ensures { λ r. ⌜ r ≡ numberOf a ⌝ }
+{
+    match a {
+        Answer::Done(_) => 0,
+        Answer::Refused(number) => number,
+        Answer::Complex(_) => 4,
+        Answer::Short(_) => 7,
+    }
+}
+
+fn opcode_of(a: Answer) -> u16
+    ensures { λ r. ⌜ r ≡ opcodeOf a ⌝ }
+{
+    match a {
+        Answer::Done(_) => 0,
+        Answer::Refused(_) => 0,
+        Answer::Complex(opcode) => opcode,
+        Answer::Short(_) => 0,
+    }
+}
+
+// The four counts, a byte for each.
+fn tally_bits(t: Tally) -> u64
+    requires { ⌜ total t < 2 ^ 8 ⌝ }
+    ensures { λ r. ⌜ (r ≡ tallyBits t) × (r < 2 ^ 32) ⌝ }
+{
+    t.unknown + t.none * 0x100 + t.part * 0x1_0000 + t.whole * 0x100_0000
+}
+
+pub fn stepped_bits(s: Stepped) -> u64
+    requires { ⌜ total (s .tally) < 2 ^ 8 ⌝ }
+    ensures { λ r. ⌜ r ≡ steppedBits s ⌝ }
+{
+    let number = s.number as u64;
+    let visit = s.visit;
+    let visited = number_of(visit) as u64;
+    let opcode = opcode_of(visit) as u64;
+    let tally = s.tally;
+    number + visited * 0x100 + tally_bits(tally) * 0x1_0000 + opcode * 0x1_0000_0000_0000
+}
+
+pub fn verdict_number(v: Verdict) -> u64
+    ensures { λ r. ⌜ (r ≡ verdictNumber v) × (r < 2 ^ 8) ⌝ }
+{
+    match v {
+        Verdict::NoWrite => 0,
+        Verdict::AddressUnknown => 1,
+        Verdict::NoneTouched => 2,
+        Verdict::PartTouched => 3,
+        Verdict::WholeTouched => 4,
+    }
 }

@@ -1,6 +1,7 @@
 // What users call: every call takes bytes and answers one number, whose bits specs/Answers.antt names. No call requires anything.
 mod bits; // bits.rt: which bits of an answer hold what
-mod calls; // calls.rt: the calls, exported as C
+mod calls; // calls.rt: the calls on a record and on a log, exported as C
+mod watches; // watches.rt: the calls on a watch, whose words a C caller keeps
 
 pub use calls::machhurel_difference;
 pub use calls::machhurel_digest;
@@ -9,3 +10,6 @@ pub use calls::machhurel_exceptions;
 pub use calls::machhurel_listing;
 pub use calls::machhurel_privilege;
 pub use calls::machhurel_visit;
+pub use watches::machhurel_verdict;
+pub use watches::machhurel_watch_new;
+pub use watches::machhurel_watch_step;

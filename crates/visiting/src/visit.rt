@@ -12,7 +12,7 @@ ghost use Rattle.definition.specs.Visits.{visitUnder, visitOf};
 ghost use Rattle.visiting.specs.Records.{logBytes, firstRefusal, refusalIn, visitRecord};
 
 // No log is longer.
-const MOST_BYTES: usize = 177;
+pub const MOST_BYTES: usize = 177;
 
 // How long the log of a record is: it is written aside, and counted.
 fn log_length(x: Record, values: &[u64; 17], known: u32) -> usize

@@ -8,6 +8,7 @@ mod listings; // listings.rt: the listing call
 mod rows; // rows.rt: how a row is made, compared and printed
 mod samples; // samples.rt: records and register files, by what is not 0 in them
 mod visits; // visits.rt: the visit call, with the bench records
+mod watches; // watches.rt: the calls on a watch
 
 fn main() {
     digests::run();
@@ -16,4 +17,5 @@ fn main() {
     events::run();
     differences::run();
     visits::run();
+    watches::run();
 }

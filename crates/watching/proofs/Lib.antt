@@ -1,0 +1,6 @@
+pub mod Overlap
+pub mod Touched
+pub mod Sums
+pub mod Walks
+pub mod Counted
+pub mod Steps

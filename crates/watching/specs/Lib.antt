@@ -1,0 +1,4 @@
+pub mod Verdicts
+pub mod Tallies
+pub mod Walks
+pub mod Traces
