@@ -3,4 +3,6 @@ pub mod Counts
 pub mod Numbers
 pub mod Bits
 pub mod Tables
+pub mod Trust
+pub mod Strength
 pub mod Proved

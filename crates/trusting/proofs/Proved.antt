@@ -1,4 +1,4 @@
--- Every statement of specs/Promises.antt, and the tables of specs/Rows.antt, proved.
+-- Every statement of specs/Promises.antt, Trust.antt and Strength.antt, and the tables of specs/Rows.antt, proved.
 use Prim.Native.Nat.{ℕ, _+_, _%_, _<_}
 use native.Mathlib.Omega.{arith}
 use native.Mathlib.Nat.{zero-add}
@@ -19,11 +19,15 @@ use Rattle.watching.proofs.Walks.{named}
 use Rattle.trusting.specs.Merges.{merged}
 use Rattle.trusting.specs.Promises as promised
 use Rattle.trusting.specs.Rows as rows
+use Rattle.trusting.specs.Trust as trusted
+use Rattle.trusting.specs.Strength as strong
 use Rattle.trusting.proofs.Merging.{watch-is, earlier-never, pairWatch, whole-variable, full-takes, short-takes, step-taken, step-untaken, step-merged, watch-merged, watch-first, watch-bounded, whole-append}
 use Rattle.trusting.proofs.Counts as counts
 use Rattle.trusting.proofs.Numbers as numbers
 use Rattle.trusting.proofs.Bits as bits
 use Rattle.trusting.proofs.Tables as tables
+use Rattle.trusting.proofs.Trust as trust
+use Rattle.trusting.proofs.Strength as strength
 
 pub counts-are-counts : promised.CountsAreCounts
 counts-are-counts = counts.counts-are-counts
@@ -134,3 +138,18 @@ bits-are-bytes v a n i = bits.bits-are (λ (i : ℕ). isIn ((v .address + i) % w
 
 pub rows-hold : rows.RowsHold
 rows-hold = tables.rows-hold
+
+pub verdicts-stand : trusted.VerdictsStand
+verdicts-stand = trust.verdicts-stand
+
+pub watches-trusted : trusted.WatchesTrusted
+watches-trusted = trust.watches-trusted
+
+pub watches-equal : trusted.WatchesEqual
+watches-equal = trust.watches-equal
+
+pub unknown-becomes : strong.UnknownBecomes
+unknown-becomes = strength.unknown-becomes
+
+pub numbers-move : strong.NumbersMove
+numbers-move = strength.numbers-move

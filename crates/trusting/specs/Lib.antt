@@ -1,3 +1,5 @@
 pub mod Merges
 pub mod Promises
 pub mod Rows
+pub mod Trust
+pub mod Strength

@@ -50,7 +50,7 @@ module _ (b f : List ℕ) (a : Answer) (log : List ℕ) (visited : (a, log) ≡ 
   unfolding answerTo
   answered = sym (ap (λ (r : Answer × List ℕ). r .0) visited)
 
-  done-if : numberOf a ≡ 0 → a ≡ Done (length (bytesOf (logOf b (fileOf f))))
+  pub done-if : numberOf a ≡ 0 → a ≡ Done (length (bytesOf (logOf b (fileOf f))))
   unfolding visitBy
   done-if e =
       let same : a ≡ visitOf b f full 0 .0 = ap (λ (r : Answer × List ℕ). r .0) visited in
