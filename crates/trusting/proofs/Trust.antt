@@ -19,8 +19,8 @@ use Rattle.definition.specs.declared.Answer.the-variants.{Done}
 use Rattle.definition.specs.declared.Event.{Event}
 use Rattle.promises.specs.Refinement.{Refines, same, found-read, found-write, RefinesAll, Extends, AgreeOn}
 use Rattle.promises.specs.Refinement as refinement
-use Rattle.promises.specs.Calls.{Refusal, by-number, by-opcode, Alike, refused, logged}
-use Rattle.promises.proofs.Outcomes.{not-refused, not-complex}
+use Rattle.promises.specs.Calls.{Refusal, by-number, by-opcode, by-room, Alike, refused, logged}
+use Rattle.promises.proofs.Outcomes.{not-refused, not-complex, not-short}
 use Rattle.promises.proofs.Refine.{steps-agree}
 use Rattle.promises.proofs.Proved.{more-known-refines, more-known-refines-under, agreement-decides}
 use Rattle.watching.specs.Verdicts.{judged, storeVerdict, verdictOf}
@@ -71,6 +71,7 @@ answered b f a l e = ap (λ (r : Answer × List ℕ). r .0) e
 refusal-not-done : {a : Answer} (n : ℕ) → Refusal a → a ≡ Done n → ⊥
 refusal-not-done n (by-number {k = k}) e = not-refused n k (sym e)
 refusal-not-done n (by-opcode {o = o}) e = not-complex n o (sym e)
+refusal-not-done n (by-room {n = m}) e = not-short n m (sym e)
 
 refusal-number : (b f : List ℕ) (a : Answer) (l : List ℕ) → Refusal a → visitOf b f full 0 ≡ (a, l) → numberOf a ≡ 0 → ⊥
 refusal-number b f a l r e z = refusal-not-done _ r (done-if b f a l (sym e) z)
