@@ -228,6 +228,12 @@ Visited rows = map visited rows ≡ map said rows
 abbrev pub Listed : List Row → Type 0
 Listed rows = map listed rows ≡ map said rows
 
--- every row of two, an input and an output, says what a function gives
+-- A row of two, an input and an output: what a function gives of the inputs, and what the rows say
+abbrev pub given : {A B : Type 0} → (A → B) → List (A × B) → List B
+given {A} {B} f rows = map (λ (r : A × B). f (r .0)) rows
+
+abbrev pub outputs : {A B : Type 0} → List (A × B) → List B
+outputs {A} {B} rows = map (λ (r : A × B). r .1) rows
+
 abbrev pub Table : {A B : Type 0} → (A → B) → List (A × B) → Type 0
-Table {A} {B} f rows = map (λ (r : A × B). f (r .0)) rows ≡ map (λ (r : A × B). r .1) rows
+Table f rows = given f rows ≡ outputs rows
