@@ -17,7 +17,7 @@ use Rattle.digest.specs.declared.DigestAnswer.{DigestAnswer}
 use Rattle.digest.specs.declared.DigestAnswer.the-variants as digests
 use Rattle.implicit.specs.Lists.{implicitOf}
 use Rattle.implicit.specs.Memory.{memoryEntry}
-use Rattle.record.specs.Records.{recordOf, recordRefusal, specAt, regAt, vexW, rexW, operandSize, addressSize}
+use Rattle.record.specs.Records.{recordOf, recordRefusal, specAt, regAt, vexW, addressSize}
 use Rattle.record.specs.declared.Record.{Record}
 use Rattle.definition.specs.Tables.{shapeOf, Rule, no-rule, mul, imul, div, nop, cmpxchg, movhalf, extrq, insertq, return, mulx, maskmov, pcmpestri, pcmpestrm, loop, ruleOf}
 use Rattle.definition.specs.declared.Shape.{Shape}
@@ -46,12 +46,12 @@ operandWidth x = cond (eqb (specAt x 0) 2) (widthOf (regAt x 1)) (x .size)
 unfoldable pub byWidth : ℕ → ℕ → BehaviorDigest → BehaviorDigest
 byWidth l n d = withList (l + cond (eqb n 1) 0 (cond (eqb n 2) 1 (cond (eqb n 4) 2 3))) d
 
--- IMUL: with 1 operand as MUL, with 2 both and read, with 3 both, read and read
+-- IMUL: with 1 operand as MUL, with 2 both and read, with 3 write, read and read
 unfoldable pub imulFix : Record → BehaviorDigest → BehaviorDigest
 imulFix x d =
     cond (eqb (x .count) 1) (byWidth 1 (operandWidth x) d)
     (cond (eqb (x .count) 2) (withAccess 1 read (withAccess 0 both d))
-    (cond (eqb (x .count) 3) (withAccess 2 read (withAccess 1 read (withAccess 0 both d)))
+    (cond (eqb (x .count) 3) (withAccess 2 read (withAccess 1 read (withAccess 0 write d)))
     d))
 
 -- VMOVLPS and its like: with count 2 operand 0 both; else operand 0 write, operand 2 read
@@ -74,7 +74,7 @@ fixUp mulx x d = withList (cond (vexW x) 14 13) d
 fixUp maskmov x d = withList (cond (addressSize x) 15 16) d
 fixUp pcmpestri x d = withList (cond (vexW x) 18 17) d
 fixUp pcmpestrm x d = withList (cond (vexW x) 20 19) d
-fixUp loop x d = withList (cond (rexW x) 21 (cond (operandSize x) 22 23)) d
+fixUp loop x d = withList (cond (addressSize x) 23 21) d
 
 -- the digest after fix-ups, which happen only where nontrivial is set
 unfoldable pub digestOf : Record → BehaviorDigest

@@ -95,8 +95,8 @@ fn fix_imul(x: Record) -> BehaviorDigest
             with_access(changed, 1, Access::Read)
         }
         3 => {
-            let changed = with_access(d, 0, Access::ReadWrite);
-            let read = with_access(changed, 1, Access::Read);
+            let first = with_access(d, 0, Access::Write);
+            let read = with_access(first, 1, Access::Read);
             with_access(read, 2, Access::Read)
         }
         _ => d,
@@ -200,11 +200,7 @@ fn fix_pcmpestrm(x: Record) -> BehaviorDigest
 fn fix_loop(x: Record) -> BehaviorDigest
     ensures { λ r. ⌜ r ≡ fixUp loop x (x .digest) ⌝ }
 {
-    if x.rex_w() {
-        with_list(x.digest, 21)
-    } else {
-        one_list_of(x.digest, x.operand_size(), 22, 23)
-    }
+    one_list_of(x.digest, x.address_size(), 23, 21)
 }
 
 // The rule of the opcode, on the base digest.

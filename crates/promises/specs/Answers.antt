@@ -99,7 +99,8 @@ digests =
     ∷ ((opcode 2 ∷ specs (RegMMM ∷ []) ∷ []), fixed 0x10 0xFF 4)
     ∷ ((opcode 2 ∷ count 2 ∷ access 0x00 ∷ []), fixed 0x10 0x07 9)
     ∷ ((opcode 2 ∷ count 2 ∷ []), fixed 0x10 0xF7 9)
-    ∷ ((opcode 2 ∷ count 3 ∷ []), fixed 0x10 0xD7 9)
+    ∷ ((opcode 2 ∷ count 3 ∷ []), fixed 0x10 0xD6 9)
+    ∷ ((opcode 2 ∷ count 3 ∷ access 0x00 ∷ []), fixed 0x10 0x16 9)
     ∷ ((opcode 2 ∷ count 4 ∷ []), fixed 0x10 0xFF 9)
     -- NOP
     ∷ ((opcode 5 ∷ count 1 ∷ []), fixed 0x10 0xFC 9)
@@ -129,10 +130,14 @@ digests =
     -- address size
     ∷ ((opcode 16 ∷ prefixes 0x08 ∷ []), fixed 0x10 0xFF 15)
     ∷ ((opcode 16 ∷ prefixes 0x07 ∷ []), fixed 0x10 0xFF 16)
-    -- LOOP: REX W before operand size
-    ∷ ((opcode 23 ∷ prefixes 0x06 ∷ []), fixed 0x10 0xFF 21)
-    ∷ ((opcode 21 ∷ prefixes 0x04 ∷ []), fixed 0x10 0xFF 22)
-    ∷ ((opcode 22 ∷ prefixes 0x09 ∷ []), fixed 0x10 0xFF 23)
+    -- LOOP: the address size alone, whatever list the record brings; without bit 4 list 22 stays
+    ∷ ((opcode 21 ∷ prefixes 0x00 ∷ []), fixed 0x10 0xFF 21)
+    ∷ ((opcode 22 ∷ prefixes 0x04 ∷ []), fixed 0x10 0xFF 21)
+    ∷ ((opcode 23 ∷ prefixes 0x02 ∷ list 22 ∷ []), fixed 0x10 0xFF 21)
+    ∷ ((opcode 21 ∷ prefixes 0x08 ∷ []), fixed 0x10 0xFF 23)
+    ∷ ((opcode 22 ∷ prefixes 0x0A ∷ []), fixed 0x10 0xFF 23)
+    ∷ ((opcode 23 ∷ prefixes 0x0C ∷ list 22 ∷ []), fixed 0x10 0xFF 23)
+    ∷ ((opcode 23 ∷ prefixes 0x08 ∷ behavior 0x00 ∷ list 22 ∷ []), fixed 0x00 0xFF 22)
     -- bits 6 and 7 stay; without bit 4 nothing changes
     ∷ ((opcode 13 ∷ count 1 ∷ behavior 0xDF ∷ []), fixed 0xDF 0xFD 9)
     ∷ ((opcode 13 ∷ count 1 ∷ behavior 0xEF ∷ []), fixed 0xEF 0xFF 9)

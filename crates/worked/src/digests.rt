@@ -35,8 +35,8 @@ fn counted(name: &[u8], opcode: u8, count: u8, access: u8, answer: u64) {
 fn loops() {
     prefixed(b"LOOP, REX W", 23, 0x02, 0x15_0001_1000);
     prefixed(b"LOOP, REX W, operand size", 23, 0x06, 0x15_0001_1000);
-    prefixed(b"LOOPZ, operand size", 22, 0x04, 0x16_0001_1000);
-    prefixed(b"LOOPNZ, others", 21, 0x09, 0x17_0001_1000);
+    prefixed(b"LOOPZ, operand size", 22, 0x04, 0x15_0001_1000);
+    prefixed(b"LOOPNZ, address size", 21, 0x09, 0x17_0001_1000);
 }
 
 fn prefixes() {
@@ -63,7 +63,7 @@ fn widths() {
 
 fn counts() {
     counted(b"IMUL with 2", 2, 2, 0x06, 0x0007_1000);
-    counted(b"IMUL with 3", 2, 3, 0x00, 0x0017_1000);
+    counted(b"IMUL with 3", 2, 3, 0x00, 0x0016_1000);
     counted(b"IMUL with 4", 2, 4, 0xE4, 0x00E4_1000);
     counted(b"IMUL with 0", 2, 0, 0xE4, 0x00E4_1000);
     counted(b"VMOVLPS with 2", 7, 2, 0x00, 0x0003_1000);

@@ -120,7 +120,13 @@ fn room() {
     p2_in(b"P2, room 32 behind 18", 50, 18, 0x20_0000_0000, &P2_LOG);
     p2_in(b"P2, room 31 behind 19", 50, 19, 0x20_0000_0007, b"");
     p2_in(b"P2, start past the end", 50, 51, 0x20_0000_0007, b"");
-    p2_in(b"P2, largest start", 50, 18446744073709551615, 0x20_0000_0007, b"");
+    p2_in(
+        b"P2, largest start",
+        50,
+        18446744073709551615,
+        0x20_0000_0007,
+        b"",
+    );
     row_in(b"no event at the end", plain(), unknown(), 50, 50, 0, b"");
 }
 
@@ -152,5 +158,10 @@ fn refused() {
     refuses(b"refused 5", x, unknown(), 5);
     let y = with(operands(2, DEREF, 0, 0x01), SIZE, 0);
     refuses(b"refused 6", y, unknown(), 6);
-    refuses(b"refused 7", one(40, 0x00, DEREF), unknown(), 0x05_0000_0007);
+    refuses(
+        b"refused 7",
+        one(40, 0x00, DEREF),
+        unknown(),
+        0x05_0000_0007,
+    );
 }

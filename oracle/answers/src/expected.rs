@@ -90,7 +90,7 @@ pub fn log(record: &[u8], file: &[u8]) -> Bytes {
     if refusals::of_file(file) {
         return Err(Refusal::Number(3));
     }
-    let (_, operand_access, list) = ready.behavior().digest();
+    let (_, operand_access, list) = ready.digest();
     let causes = refusals::causes(record, operand_access, list);
     let refused_5 = causes.no_operand || causes.reg4_outside;
     match asked::visit(&ready, &RegisterFile::from_bytes(file)) {
@@ -127,7 +127,7 @@ fn within(what: &str, bytes: Vec<u8>, limit: usize) -> Bytes {
 /// Bits 0-7 number, 8-15 `behavior`, 16-23 `operand_access`, 32-47 list.
 pub fn digest(record: &[u8]) -> u64 {
     of_record(record, |ready| {
-        let (behavior, operand_access, list) = ready.behavior().digest();
+        let (behavior, operand_access, list) = ready.digest();
         (behavior as u64) << 8 | (operand_access as u64) << 16 | (list as u64) << 32
     })
 }

@@ -6,6 +6,12 @@ use given::long_mode::{Instruction, Opcode, OperandSpec, Prefixes, RegSpec, Regi
 pub const LENGTH: usize = 40;
 pub const KIND: u8 = 0x10;
 
+const NONTRIVIAL: u8 = 0x10;
+const ADDRESS_SIZE: u8 = 0x08;
+const IMUL: u16 = 2;
+const LOOPNZ: u16 = 21;
+const LOOP: u16 = 23;
+
 pub struct Record {
     instruction: Instruction,
     behavior: u8,
@@ -38,9 +44,34 @@ impl Record {
         }
     }
 
-    /// The given Rust's behavior of this instruction: the record's base digest after fix-ups.
+    /// The given Rust's behavior of this instruction: the record's base digest after fix-ups, as document 02 corrects them.
     pub fn behavior(&self) -> InstBehavior<'_> {
-        set_base(self.behavior, self.operand_access, self.extra);
+        match self.corrected() {
+            // The digest stands as it is: without the nontrivial bit the given Rust changes nothing.
+            Some((behavior, operand_access, list)) => set_base(behavior & !NONTRIVIAL, operand_access, list),
+            None => set_base(self.behavior, self.operand_access, self.extra),
+        }
         self.instruction.behavior()
+    }
+
+    /// `behavior`, `operand_access` and list after fix-ups.
+    pub fn digest(&self) -> (u8, u8, u16) {
+        self.corrected().unwrap_or_else(|| self.behavior().digest())
+    }
+
+    /// T-06, applied to the given Rust's digest after fix-ups: LOOP's list goes by the address size alone, and IMUL with
+    /// three operands only writes operand 0. No other digest is touched.
+    fn corrected(&self) -> Option<(u8, u8, u16)> {
+        if self.behavior & NONTRIVIAL == 0 {
+            return None;
+        }
+        set_base(self.behavior, self.operand_access, self.extra);
+        let (behavior, operand_access, list) = self.instruction.behavior().digest();
+        match (self.instruction.opcode as u32 as u16, self.instruction.operand_count) {
+            (LOOPNZ..=LOOP, _) if self.instruction.prefixes.bits & ADDRESS_SIZE != 0 => Some((behavior, operand_access, 23)),
+            (LOOPNZ..=LOOP, _) => Some((behavior, operand_access, 21)),
+            (IMUL, 3) => Some((behavior, operand_access & !3 | 2, list)),
+            _ => None,
+        }
     }
 }
