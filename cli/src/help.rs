@@ -79,8 +79,11 @@ pub fn of(command: &Command) -> String {
         text.push_str(&row(&typed(choice), choice.words));
     }
     text.push_str(&row("-h, --help", "this help"));
-    text.push('\n');
-    text.push_str(&(command.closing)());
+    let closing = (command.closing)();
+    if !closing.is_empty() {
+        text.push('\n');
+        text.push_str(&closing);
+    }
     text
 }
 
@@ -94,5 +97,5 @@ pub fn typed(choice: &Choice) -> String {
 }
 
 fn row(left: &str, right: &str) -> String {
-    format!("  {left:<34} {right}\n")
+    format!("  {left:<37} {right}\n")
 }

@@ -143,12 +143,14 @@ fn many(n: u64, one: &str) -> String {
 
 /// What is counted, and over what: a watch, or all of a trace's.
 pub(super) fn put_answer(out: &mut Vec<u8>, kind: Kind, trace: &str, over: &str, answer: &Answer) {
-    let last = answer.from.saturating_add(answer.pairs.saturating_sub(1));
+    let to = answer.from.saturating_add(answer.pairs);
+    let (from, last) = (answer.from, to.saturating_sub(1));
+    let all = Range { from, to };
     let tally = &answer.tally;
     if kind == Kind::Text {
         put!(out, "{over}, {}", many(answer.pairs, "pair"));
         if answer.pairs > 0 {
-            put!(out, ", records {} to {last}", answer.from);
+            put!(out, ", {}", records(&[all], answer.pairs));
         }
         put!(out, "\n  {} wrote part of it", many(tally.part, "store"));
         if let Some(record) = answer.first_part {
@@ -221,15 +223,15 @@ pub(super) fn put_reasons(
         (
             reasons.others,
             Some(reasons.first_other),
-            "pairs refused with further opcodes: `machhurel show` names each",
+            "pairs refused with further opcodes, which `machhurel show` names",
         ),
-        (damages, None, "damaged or cut places of the trace"),
+        (damages, None, "places of the trace that are damaged or cut"),
     ] {
         if count == 0 {
             continue;
         }
         if kind == Kind::Text {
-            put!(out, "  {count} {words}");
+            put!(out, "  {words}: {count}");
             if let Some(record) = record {
                 put!(out, ", the first in record {record}");
             }
@@ -265,13 +267,7 @@ fn put_reason(out: &mut Vec<u8>, kind: Kind, trace: &str, reason: &Reason) {
                 put!(out, ": {}", refused.refusal.reason());
             }
         }
-        let words: Vec<String> = reason.ranges.iter().map(range).collect();
-        let name = if reason.records == 1 {
-            "record"
-        } else {
-            "records"
-        };
-        put!(out, ": {name} {}", words.join(", "));
+        put!(out, ": {}", records(&reason.ranges, reason.records));
         if reason.more > 0 {
             put!(out, " and {} more", reason.more);
         }
@@ -306,10 +302,16 @@ fn put_reason(out: &mut Vec<u8>, kind: Kind, trace: &str, reason: &Reason) {
     }
 }
 
-fn range(range: &Range) -> String {
-    let last = range.to.saturating_sub(1);
-    if range.from == last {
-        return last.to_string();
-    }
-    format!("{} to {last}", range.from)
+/// The records of these ranges: `records 0 to 3, 7`.
+fn records(ranges: &[Range], count: u64) -> String {
+    let word = |range: &Range| {
+        let last = range.to.saturating_sub(1);
+        match range.from == last {
+            true => last.to_string(),
+            false => format!("{} to {last}", range.from),
+        }
+    };
+    let words: Vec<String> = ranges.iter().map(word).collect();
+    let name = if count == 1 { "record" } else { "records" };
+    format!("{name} {}", words.join(", "))
 }
