@@ -245,15 +245,15 @@ impl Model {
         if !self.reasons.is_empty() || self.damages > 0 {
             text += "the answer is not complete: the variable may have been written where nobody can tell\n";
         }
-        for (why, records) in self.reasons.iter().take(32) {
+        // 32 reasons are told apart, and an unknown address always is
+        let told = |(k, reason): &(usize, &(String, Vec<u64>))| {
+            *k < 32 || !reason.0.starts_with("refused")
+        };
+        for (_, (why, records)) in self.reasons.iter().enumerate().filter(told) {
             text += &format!("  {why}: {}\n", ranges(records));
         }
-        let others: Vec<u64> = self
-            .reasons
-            .iter()
-            .skip(32)
-            .flat_map(|(_, all)| all.clone())
-            .collect();
+        let further = self.reasons.iter().enumerate().filter(|each| !told(each));
+        let others: Vec<u64> = further.flat_map(|(_, (_, all))| all.clone()).collect();
         if let Some(first) = others.iter().min() {
             let n = others.len();
             text += &format!("  pairs refused with further opcodes, which `machhurel show` names: {n}, the first in record {first}\n");
@@ -354,6 +354,7 @@ fn many_reasons_are_told_in_few_lines() {
         trace.extend(record);
         trace.extend_from_slice(&store(Some(0), 1));
     }
+    trace.extend_from_slice(&store(None, 8));
     assert_eq!(agrees(&trace, 0x1008, 8, "1", "many"), 4);
     let ran = pipe(&["watch", "-", "0x1008", "8"], &trace);
     assert!(ran.output.len() < 8_000, "{}", ran.output.len());

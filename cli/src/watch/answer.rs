@@ -1,4 +1,5 @@
 //! The answer over the watches of a trace, in the trace's numbers.
+use crate::number::Range;
 use machhurel::{Tally, Watch};
 
 /// What a watch says, or several one after another.
@@ -42,6 +43,14 @@ impl Answer {
             refused: self.refused.saturating_add(later.refused),
             first_part: self.first_part.or(later.first_part),
             last_whole: later.last_whole.or(self.last_whole),
+        }
+    }
+
+    /// The numbers of its records.
+    pub(super) fn records(&self) -> Range {
+        Range {
+            from: self.from,
+            to: self.from.saturating_add(self.pairs),
         }
     }
 

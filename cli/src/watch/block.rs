@@ -60,11 +60,12 @@ pub(super) struct Look {
 /// What was seen in a block.
 pub(super) struct Seen {
     pub(super) first: u64,
-    /// The pairs of the block: the watch took as many, or one was passed over.
-    pub(super) pairs: u64,
+    /// The pairs of the block.
+    pairs: u64,
     pub(super) watch: Watch,
-    /// A line for each part write.
+    /// A line for each part write, and how many.
     pub(super) lines: Vec<u8>,
+    named: u64,
     /// Records of which not all is known, and why.
     pub(super) unsure: Vec<(u64, Why)>,
 }
@@ -76,6 +77,7 @@ impl Look {
             pairs: block.pairs,
             watch: self.watch,
             lines: Vec::new(),
+            named: 0,
             unsure: Vec::new(),
         };
         let mut file = block.file.as_slice();
@@ -106,6 +108,7 @@ impl Look {
         let names = self.watch.names(log.get(..length).unwrap_or(&[]));
         for (event, named) in names.flatten() {
             if named.verdict == Verdict::PartTouched {
+                seen.named = seen.named.saturating_add(1);
                 let length = self.watch.length();
                 rows::put_part(
                     &mut seen.lines,
@@ -121,6 +124,11 @@ impl Look {
 }
 
 impl Seen {
+    /// Whether no pair was passed over, and every part write named.
+    pub(super) fn is_whole(&self) -> bool {
+        self.watch.pairs() == self.pairs && self.watch.tally().part == self.named
+    }
+
     fn note(&mut self, record: u64, opcode: u16, step: &Step) {
         if let Some(refusal) = step.refused {
             self.unsure

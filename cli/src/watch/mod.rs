@@ -4,7 +4,10 @@ mod block;
 mod jobs;
 mod reasons;
 mod rows;
+mod table;
 mod teller;
+mod text;
+mod touched;
 
 use crate::arguments::{wrong, Arguments, Instead};
 use crate::choice::{Choice, FORMAT};
@@ -95,7 +98,7 @@ impl Asked {
 /// Why a replay ended before the trace did.
 enum Ended {
     Unwritten(Unwritten),
-    /// Not every pair was looked at.
+    /// Not every pair was looked at, or not every part write named.
     Lost,
 }
 

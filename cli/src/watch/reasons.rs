@@ -2,7 +2,7 @@
 use crate::number::Range;
 use machhurel::RefusedRecord;
 
-/// So many reasons are told apart.
+/// So many reasons are told apart, and an unknown address always is.
 const REASONS: usize = 32;
 /// So many ranges of records are kept for each.
 const RANGES: usize = 16;
@@ -27,20 +27,37 @@ pub(super) struct Reason {
     pub(super) more: u64,
 }
 
+/// What is only counted.
+pub(super) struct Others {
+    pub(super) words: &'static str,
+    pub(super) count: u64,
+    /// The first record of them, where there is one.
+    pub(super) first: Option<u64>,
+}
+
 /// The reasons in the order in which they came.
-#[derive(Default)]
 pub(super) struct Reasons {
     pub(super) all: Vec<Reason>,
-    /// Records with a reason beyond those told apart, and the first of them.
-    pub(super) others: u64,
-    pub(super) first_other: u64,
+    /// Refused records beyond the reasons that are told apart.
+    pub(super) others: Others,
 }
 
 impl Reasons {
+    pub(super) fn new() -> Reasons {
+        Reasons {
+            all: Vec::new(),
+            others: Others {
+                words: "pairs refused with further opcodes, which `machhurel show` names",
+                count: 0,
+                first: None,
+            },
+        }
+    }
+
     pub(super) fn add(&mut self, record: u64, why: Why) {
         if let Some(reason) = self.all.iter_mut().find(|reason| reason.why == why) {
             reason.add(record);
-        } else if self.all.len() < REASONS {
+        } else if self.all.len() < REASONS || why == Why::Unknown {
             let mut reason = Reason {
                 why,
                 records: 0,
@@ -50,10 +67,8 @@ impl Reasons {
             reason.add(record);
             self.all.push(reason);
         } else {
-            if self.others == 0 {
-                self.first_other = record;
-            }
-            self.others = self.others.saturating_add(1);
+            self.others.first = self.others.first.or(Some(record));
+            self.others.count = self.others.count.saturating_add(1);
         }
     }
 }
@@ -79,7 +94,7 @@ mod tests {
 
     #[test]
     fn neighbours_join_and_the_first_are_kept() {
-        let mut reasons = Reasons::default();
+        let mut reasons = Reasons::new();
         for record in [0, 1, 2, 5].into_iter().chain((10..100).step_by(2)) {
             reasons.add(record, Why::Unknown);
         }
@@ -99,12 +114,17 @@ mod tests {
 
     #[test]
     fn so_many_reasons_and_how_many_others() {
-        let mut reasons = Reasons::default();
+        let mut reasons = Reasons::new();
         for opcode in 0..100 {
             let why = Why::Refused(Refusal::Size.of_opcode(opcode));
             reasons.add(u64::from(opcode), why);
         }
+        let others = |reasons: &Reasons| (reasons.others.count, reasons.others.first);
         assert_eq!(reasons.all.len(), REASONS);
-        assert_eq!((reasons.others, reasons.first_other), (68, 32));
+        assert_eq!(others(&reasons), (68, Some(32)));
+        // an unknown address is no refusal, and is never counted as one
+        reasons.add(100, Why::Unknown);
+        assert_eq!(reasons.all.len(), REASONS + 1);
+        assert_eq!(others(&reasons), (68, Some(32)));
     }
 }

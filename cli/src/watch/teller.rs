@@ -2,8 +2,8 @@
 use super::answer::Answer;
 use super::block::{Look, Seen};
 use super::reasons::Reasons;
+use super::rows::Over;
 use super::{rows, Ended};
-use crate::format::Kind;
 use crate::output::Output;
 use crate::status::Status;
 use machhurel::Watch;
@@ -25,13 +25,13 @@ impl Teller {
             look,
             from: 0,
             before: None,
-            reasons: Reasons::default(),
+            reasons: Reasons::new(),
         }
     }
 
     /// Takes what was seen in the next block of the trace.
     pub(super) fn take(&mut self, seen: Seen, output: &mut Output) -> Result<(), Ended> {
-        if seen.watch.pairs() != seen.pairs {
+        if !seen.is_whole() {
             return Err(Ended::Lost);
         }
         match self.watch.then(&seen.watch) {
@@ -60,33 +60,24 @@ impl Teller {
 
     /// Says what the watch that goes on has seen.
     fn put_watch(&self, output: &mut Output) {
-        let answer = Answer::of(&self.watch, self.from);
-        self.put_answer(output, ["this watch", "this watch: "], &answer);
+        self.put_answer(output, Over::One, &Answer::of(&self.watch, self.from));
     }
 
-    /// Counts, over what is called so in text and in front of the rows for other programs.
-    fn put_answer(&self, output: &mut Output, [over, before]: [&str; 2], answer: &Answer) {
+    fn put_answer(&self, output: &mut Output, over: Over, answer: &Answer) {
         let Look { kind, name, watch } = &self.look;
-        let (address, length) = (watch.address(), watch.length());
-        let over = if *kind == Kind::Text {
-            let bytes = if length == 1 { "byte" } else { "bytes" };
-            format!("{over} of {length} {bytes} at 0x{address:016x}")
-        } else {
-            before.to_string()
-        };
-        rows::put_answer(&mut output.bytes, *kind, name, &over, answer);
+        rows::put_answer(&mut output.bytes, *kind, name, watch, over, answer);
     }
 
     /// Says what came of it all.
     pub(super) fn end(&self, output: &mut Output, damages: u64) -> Status {
-        if self.before.is_some() {
-            self.put_watch(output);
-        }
         let over = match self.before {
-            None => "the watch",
-            Some(_) => "all watches",
+            None => Over::Trace,
+            Some(_) => {
+                self.put_watch(output);
+                Over::All
+            }
         };
-        self.put_answer(output, [over, ""], &self.answer());
+        self.put_answer(output, over, &self.answer());
         let Look { kind, name, .. } = &self.look;
         rows::put_reasons(&mut output.bytes, *kind, name, &self.reasons, damages);
         self.status()
