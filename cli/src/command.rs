@@ -5,7 +5,7 @@ use crate::name::harmless;
 use crate::nearest::nearest;
 use crate::output::{complain, reason, Output, Unwritten};
 use crate::status::Status;
-use crate::{help, show, summary, VERSION};
+use crate::{difference, help, show, summary, watch, VERSION};
 use std::ffi::OsString;
 
 /// A command.
@@ -20,11 +20,18 @@ pub struct Command {
     pub details: &'static str,
     /// Its options.
     pub choices: &'static [Choice],
+    /// What its help ends with.
+    pub closing: fn() -> String,
     pub(crate) run: fn(&Arguments, &mut Output) -> Result<Status, Instead>,
 }
 
 /// Every command. A later one is one more row.
-pub const COMMANDS: [&Command; 2] = [&show::COMMAND, &summary::COMMAND];
+pub const COMMANDS: [&Command; 4] = [
+    &show::COMMAND,
+    &summary::COMMAND,
+    &watch::COMMAND,
+    &difference::COMMAND,
+];
 
 /// Runs the command that these words ask for. No word at all is `show`.
 pub fn run(words: Vec<OsString>) -> Status {

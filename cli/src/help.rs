@@ -7,14 +7,23 @@ use machhurel::{Class, KINDS};
 pub const PURPOSE: &str =
     "says which registers and which memory the instructions of a trace touched";
 
-/// What a trace is, how it is named, and how the command ends: for every command alike.
-pub fn common() -> String {
+/// What a trace is.
+pub fn trace() -> String {
     let (files, records) = (kinds(Class::File), kinds(Class::Record));
     format!(
         "\
 A trace has register files ({files}) and records ({records}), one after another. A record stands under the last
 good register file before it. Records are counted from 0.
+"
+    )
+}
 
+/// What a trace is, how it is named, and how the command ends: for commands over any number of traces.
+pub fn common() -> String {
+    let trace = trace();
+    format!(
+        "\
+{trace}
 - is standard input. Without a trace a pipe is read; without a pipe the sample is taken, and standard error says so.
 
 Exit status: 0 all was read; 1 a trace could not be opened, is damaged or cut, or output could not be written; 2 wrong usage.
@@ -50,7 +59,14 @@ pub fn all() -> String {
     }
     text.push('\n');
     text.push_str(&common());
+    text.push_str(&further());
     text
+}
+
+/// Where more is said of how a command ends.
+pub fn further() -> String {
+    "watch and difference take no sample, and answer by the exit status too: their help says how.\n"
+        .to_string()
 }
 
 /// The help of one command.
@@ -63,8 +79,11 @@ pub fn of(command: &Command) -> String {
         text.push_str(&row(&typed(choice), choice.words));
     }
     text.push_str(&row("-h, --help", "this help"));
-    text.push('\n');
-    text.push_str(&common());
+    let closing = (command.closing)();
+    if !closing.is_empty() {
+        text.push('\n');
+        text.push_str(&closing);
+    }
     text
 }
 
@@ -78,5 +97,5 @@ pub fn typed(choice: &Choice) -> String {
 }
 
 fn row(left: &str, right: &str) -> String {
-    format!("  {left:<34} {right}\n")
+    format!("  {left:<37} {right}\n")
 }

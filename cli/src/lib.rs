@@ -1,6 +1,6 @@
 //! The command `machhurel`: the library's answers about a trace, told to people and to other programs.
 //!
-//! All knowledge of instructions is the library's. A command is one file (`show.rs`, `summary/`) with one row in `command::COMMANDS`.
+//! All knowledge of instructions is the library's. A command is one file (`show.rs`) or one folder (`watch/`) with one row in `command::COMMANDS`.
 #![forbid(unsafe_code)]
 #![warn(missing_docs)]
 #![allow(unknown_lints)]
@@ -22,6 +22,7 @@
 mod arguments;
 mod choice;
 pub mod command;
+mod difference;
 mod format;
 pub mod help;
 mod line;
@@ -37,6 +38,7 @@ mod status;
 mod summary;
 mod terminal;
 mod walk;
+mod watch;
 
 pub use status::Status;
 

@@ -61,14 +61,14 @@ pub fn man() -> String {
         page.push_str(&format!(".B {}.br\n", escaped(&line)));
     }
     page.push_str(".SH DESCRIPTION\n");
-    page.push_str(&paragraphs(&help::common()));
+    page.push_str(&paragraphs(&(help::common() + &help::further())));
     page.push_str(".SH COMMANDS\n");
     page.extend(COMMANDS.map(section));
     page.push_str(".SH OPTIONS\n");
     page.extend(help::GENERAL.map(|(name, words)| option(name, words)));
     page.push_str(".SH EXAMPLES\n.nf\n");
     page.push_str(&escaped(
-        "machhurel show --writes 0x1008+8 --records 100..200 --format csv trace",
+        "machhurel show --writes 0x1008+8 --records 100..200 --format csv trace\nmachhurel watch trace 0x1008 8",
     ));
     page.push_str(".fi\n");
     page

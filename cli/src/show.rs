@@ -3,6 +3,7 @@ use crate::arguments::{wrong, Arguments, Instead};
 use crate::choice::{Choice, FORMAT};
 use crate::command::{written, Command};
 use crate::format::{Format, Kind};
+use crate::help;
 use crate::line::{Place, What};
 use crate::number::{Bytes, Range};
 use crate::output::{Output, Unwritten};
@@ -27,6 +28,7 @@ traces the trace's name comes first.
   14  -  refused 4 (opcode 24, BT): ...             the record's accesses cannot be told, and why
 ",
     choices: &[WRITES, RECORDS, FORMAT],
+    closing: help::common,
     run,
 };
 

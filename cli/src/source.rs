@@ -31,7 +31,7 @@ impl Source {
         }
     }
 
-    fn of(word: &OsString) -> Source {
+    pub(crate) fn of(word: &OsString) -> Source {
         if word == "-" {
             Source::Input
         } else {

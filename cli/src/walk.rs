@@ -5,7 +5,8 @@ use crate::source::Source;
 use crate::status::Status;
 use crate::terminal;
 use machhurel::{
-    check_file, known, visit, Class, Known, Refusal, TraceError, TraceReader, FILE_BYTES, LOG_BYTES,
+    check_file, known, visit, Class, Known, Refusal, TraceError, TraceReader, FILE_BYTES,
+    LOG_BYTES, RECORD_BYTES,
 };
 use std::io::Read;
 
@@ -22,12 +23,26 @@ pub(crate) enum Step<'a> {
     },
 }
 
+/// What was met, before it is visited.
+pub(crate) enum Met {
+    /// A good register file: `Walk::file` has it.
+    File,
+    /// A register file that is refused: it is not used.
+    BadFile(Refusal),
+    /// A record with this opcode: `Walk::record` has it, and `Walk::file` the file that it stands under.
+    Record(u16),
+}
+
 pub(crate) struct Walk {
     name: String,
+    /// Whether more of it may be long in coming: it is no regular file.
+    waits: bool,
     reader: TraceReader<Box<dyn Read>>,
     progress: Progress,
     /// The last good register file; before the first one there are no bytes, which a visit refuses as no file.
     file: Vec<u8>,
+    /// The last record.
+    record: Vec<u8>,
     log: [u8; LOG_BYTES],
     records: u64,
     damages: u64,
@@ -55,8 +70,10 @@ impl Walk {
                 Some(Walk {
                     progress: Progress::new(&name, opened.length, shown),
                     name,
+                    waits: opened.length.is_none(),
                     reader: TraceReader::new(opened.bytes),
                     file: Vec::with_capacity(FILE_BYTES),
+                    record: Vec::with_capacity(RECORD_BYTES),
                     log: [0; LOG_BYTES],
                     records: 0,
                     damages: 0,
@@ -91,13 +108,28 @@ impl Walk {
         known(&self.file, Known::Rip)
     }
 
+    /// The last good register file; no bytes before the first one.
+    pub(crate) fn file(&self) -> &[u8] {
+        &self.file
+    }
+
+    /// The last record.
+    pub(crate) fn record(&self) -> &[u8] {
+        &self.record
+    }
+
+    /// Whether the next item may be long in coming.
+    pub(crate) fn may_wait(&self) -> bool {
+        self.waits && !self.is_ready()
+    }
+
     /// Whether the next step is at hand. Where it is not, what has been told should be seen meanwhile.
     pub(crate) fn is_ready(&self) -> bool {
         self.reader.is_ready()
     }
 
-    /// The next step; none at the end of the trace, or where it is damaged. What is wrong waits for `complain`.
-    pub(crate) fn step(&mut self) -> Option<Step<'_>> {
+    /// The next item, not visited; none at the end of the trace, or where it is damaged. What is wrong waits for `complain`.
+    pub(crate) fn meet(&mut self) -> Option<Met> {
         self.progress.tell(self.reader.at(), self.records);
         let item = match self.reader.next_item() {
             Ok(item) => item,
@@ -116,22 +148,34 @@ impl Walk {
                     let words = format!("damaged: register file {refusal}; not used");
                     let at = item.at;
                     self.damage(at, &words);
-                    return Some(Step::BadFile(refusal));
+                    return Some(Met::BadFile(refusal));
                 }
                 self.file.clear();
                 self.file.extend_from_slice(item.bytes);
-                Some(Step::File)
+                Some(Met::File)
             }
             Some(item) => {
                 self.records = self.records.saturating_add(1);
-                let opcode = item.opcode().unwrap_or(0);
-                let log = match visit(item.bytes, &self.file, &mut self.log, 0) {
+                self.record.clear();
+                self.record.extend_from_slice(item.bytes);
+                Some(Met::Record(item.opcode().unwrap_or(0)))
+            }
+        }
+    }
+
+    /// The next step: the next item, visited where it is a record.
+    pub(crate) fn step(&mut self) -> Option<Step<'_>> {
+        Some(match self.meet()? {
+            Met::File => Step::File,
+            Met::BadFile(refusal) => Step::BadFile(refusal),
+            Met::Record(opcode) => {
+                let log = match visit(&self.record, &self.file, &mut self.log, 0) {
                     Ok(n) => self.log.get(..n).ok_or(Refusal::Room { needed: n }),
                     Err(refusal) => Err(refusal),
                 };
-                Some(Step::Record { opcode, log })
+                Step::Record { opcode, log }
             }
-        }
+        })
     }
 
     /// Whether something is wrong that has not been said: what came before it should be written first.

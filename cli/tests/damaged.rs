@@ -1,6 +1,6 @@
 //! Cut and random traces: what is told is what the library answers, record by record, and nothing is left out.
 mod common;
-use common::{pipe, run, torn, Random, TORN};
+use common::{pipe, run, spoilt, torn, Random, TORN};
 use machhurel::*;
 
 /// What `show` should print, from the library alone, and whether the trace is whole.
@@ -39,28 +39,6 @@ fn expected(trace: &[u8]) -> (String, bool) {
         record += 1;
     }
     (text, whole)
-}
-
-/// A trace of good items with some of their bytes changed, cut now and then.
-fn spoilt(random: &mut Random) -> Vec<u8> {
-    let good = torn();
-    let items: Vec<&[u8]> = Items::new(&good).map(|item| item.unwrap().bytes).collect();
-    let mut trace = Vec::new();
-    for _ in 0..random.below(40) {
-        let mut item = items[random.below(items.len() as u64) as usize].to_vec();
-        if random.below(3) == 0 {
-            let at = random.below(item.len() as u64) as usize;
-            // a kind is seldom changed, for nothing is read behind it
-            if at > 0 || random.below(8) == 0 {
-                item[at] = [random.next() as u8, random.below(41) as u8][random.below(2) as usize];
-            }
-        }
-        trace.extend(item);
-    }
-    if random.below(4) == 0 {
-        trace.truncate(random.below(trace.len() as u64 + 1) as usize);
-    }
-    trace
 }
 
 #[test]

@@ -76,6 +76,51 @@ fn wrong_usage_is_2() {
     wrong(&["\u{1b}[31m"], "there is no command \\u{1b}[31m");
 }
 
+#[test]
+fn wrong_usage_of_watch_and_difference_is_2() {
+    let three = "expected a trace, an address and a length, as trace 0x1008 8 (";
+    for words in [
+        &["watch"][..],
+        &["watch", TORN],
+        &["watch", "0x1008", "8"],
+        &["watch", TORN, TORN, "0x1008", "8"],
+    ] {
+        wrong(words, three);
+    }
+    wrong(
+        &["watch", TORN, "banana", "8"],
+        "ADDRESS banana: expected a number, as 0x1008 (",
+    );
+    for length in ["0", "9", "x", "18446744073709551617"] {
+        let expected = format!("LENGTH {length}: expected 1 to 8 (");
+        wrong(&["watch", TORN, "0x1008", length], &expected);
+    }
+    for jobs in ["0", "65", "two", "-1"] {
+        let expected = format!("--jobs {jobs}: expected 1 to 64 (");
+        wrong(&["watch", TORN, "0x1008", "8", "--jobs", jobs], &expected);
+    }
+    wrong(
+        &["watch", TORN, "0x1008", "8", "--format", "xml"],
+        "--format xml: expected text, csv, json (",
+    );
+    wrong(&["wacht"], "there is no command wacht: is watch meant?");
+    for words in [
+        &["difference"][..],
+        &["difference", TORN],
+        &["difference", "a", "b", "c"],
+    ] {
+        wrong(words, "expected two logs: A B (");
+    }
+    wrong(
+        &["difference", "-", "-"],
+        "standard input cannot be both logs (",
+    );
+    wrong(
+        &["difference", "--format", "csv", "a", "b"],
+        "there is no option --format (",
+    );
+}
+
 fn failed(ran: &Ran, expected: &str) {
     assert_eq!(ran.status, Some(1), "{ran:?}");
     assert!(ran.errors.contains(expected), "{ran:?}");
@@ -157,6 +202,8 @@ fn output_that_cannot_be_written_is_1() {
     for words in [
         &["show", TORN][..],
         &["summary", TORN],
+        &["watch", TORN, "0x1008", "8"],
+        &["difference", "/dev/null", "/dev/null"],
         &["--help"],
         &["--version"],
     ] {

@@ -112,6 +112,8 @@ fn help_is_as_kept() {
     golden("help.text", &output(&["--help"]));
     golden("help.show.text", &output(&["show", "--help"]));
     golden("help.summary.text", &output(&["summary", "-h"]));
+    golden("help.watch.text", &output(&["watch", "-h"]));
+    golden("help.difference.text", &output(&["difference", "-h"]));
     assert_eq!(output(&["-h"]), output(&["help"]));
     assert_eq!(output(&["help", "show"]), output(&["show", "-h"]));
     assert_eq!(

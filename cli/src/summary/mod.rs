@@ -7,6 +7,7 @@ use crate::arguments::{Arguments, Instead};
 use crate::choice::FORMAT;
 use crate::command::{written, Command};
 use crate::format::Kind;
+use crate::help;
 use crate::output::Output;
 use crate::source::Source;
 use crate::status::Status;
@@ -24,6 +25,7 @@ aside for, those of the addresses are given as at least and at most: no other ad
 line's at most.
 ",
     choices: &[FORMAT],
+    closing: help::common,
     run,
 };
 

@@ -100,3 +100,27 @@ impl Random {
         self.next() % n
     }
 }
+
+/// A trace of good items with some of their bytes changed, cut now and then.
+pub fn spoilt(random: &mut Random) -> Vec<u8> {
+    let good = torn();
+    let items: Vec<&[u8]> = machhurel::Items::new(&good)
+        .map(|item| item.unwrap().bytes)
+        .collect();
+    let mut trace = Vec::new();
+    for _ in 0..random.below(40) {
+        let mut item = items[random.below(items.len() as u64) as usize].to_vec();
+        if random.below(3) == 0 {
+            let at = random.below(item.len() as u64) as usize;
+            // a kind is seldom changed, for nothing is read behind it
+            if at > 0 || random.below(8) == 0 {
+                item[at] = [random.next() as u8, random.below(41) as u8][random.below(2) as usize];
+            }
+        }
+        trace.extend(item);
+    }
+    if random.below(4) == 0 {
+        trace.truncate(random.below(trace.len() as u64 + 1) as usize);
+    }
+    trace
+}

@@ -1,0 +1,183 @@
+//! `machhurel watch`: who tore a variable.
+mod answer;
+mod block;
+mod jobs;
+mod reasons;
+mod rows;
+mod table;
+mod teller;
+mod text;
+mod touched;
+
+use crate::arguments::{wrong, Arguments, Instead};
+use crate::choice::{Choice, FORMAT};
+use crate::command::{written, Command};
+use crate::format::Kind;
+use crate::help;
+use crate::name::harmless;
+use crate::number::number;
+use crate::output::{complain, Output, Unwritten};
+use crate::source::Source;
+use crate::status::Status;
+use crate::walk::Walk;
+use block::{Block, Look};
+use jobs::{Jobs, Lost};
+use machhurel::Watch;
+use teller::Teller;
+
+pub(crate) const COMMAND: Command = Command {
+    name: "watch",
+    operands: "TRACE ADDRESS LENGTH",
+    purpose: "who tore a variable: every store that wrote only part of it",
+    details: "\
+Replays a trace against the variable of LENGTH bytes, 1 to 8, at ADDRESS. Each store that wrote only part of it is a line: the
+number of the record, the rip that its register file knows (that of the next instruction; - where it knows none), the store, and
+which bytes of the variable it wrote, byte 0 at ADDRESS. Then it counts the stores that wrote part, all or none of it, and says
+which record was the first to write part of it and which was the last to write all of it.
+
+  12  0x401136  write [0x0000000000001008] 4 bytes: bytes 0 to 3 of 8
+
+A refused record and a store at an unknown address may have written the variable, and nobody can tell: then it says that the
+answer is not complete, and names those records. A watch takes 1,000,000 pairs of a record and the register file before it. Where
+a trace has more it says so, and goes on with a further watch of the same variable. - is standard input.
+
+Exit status of watch: 0 no store wrote part of the variable, and the answer is complete; 3 a store wrote part of it; 4 none was
+seen to, and the answer is not complete; 1 the trace could not be opened, is damaged or cut, or output could not be written; 2 wrong
+usage. Where several hold it is the one that comes first of 2, 1, 3, 4.
+",
+    choices: &[FORMAT, JOBS],
+    closing: help::trace,
+    run,
+};
+
+const JOBS: Choice = Choice {
+    name: "--jobs",
+    value: "N",
+    values: &[],
+    words: "look with N threads, 1 to 64; 1 if nothing is said. The output is the same",
+};
+
+/// What was asked for.
+struct Asked {
+    source: Source,
+    watch: Watch,
+    kind: Kind,
+    jobs: u64,
+}
+
+impl Asked {
+    fn of(arguments: &Arguments) -> Result<Asked, Instead> {
+        let (trace, address, length) = match arguments.operands.as_slice() {
+            [trace, address, length] => (trace, harmless(address), harmless(length)),
+            _ => {
+                let words = "expected a trace, an address and a length, as trace 0x1008 8";
+                return Err(Instead::Wrong(words.to_string()));
+            }
+        };
+        let expected = |what: &str, typed: &str, words: &str| {
+            Instead::Wrong(format!("{what} {typed}: expected {words}"))
+        };
+        let at =
+            number(&address).ok_or_else(|| expected("ADDRESS", &address, "a number, as 0x1008"))?;
+        let watch = number(&length).and_then(|length| Watch::new(at, length).ok());
+        let jobs = match arguments.last(&JOBS) {
+            None => 1,
+            Some(typed) => number(typed)
+                .filter(|n| (1..=64).contains(n))
+                .ok_or_else(|| wrong(&JOBS, typed, "1 to 64"))?,
+        };
+        Ok(Asked {
+            source: Source::of(trace),
+            watch: watch.ok_or_else(|| expected("LENGTH", &length, "1 to 8"))?,
+            kind: Kind::of(arguments),
+            jobs,
+        })
+    }
+}
+
+/// Why a replay ended before the trace did.
+enum Ended {
+    Unwritten(Unwritten),
+    /// Not every pair was looked at, or not every part write named.
+    Lost,
+}
+
+impl From<Unwritten> for Ended {
+    fn from(unwritten: Unwritten) -> Self {
+        Ended::Unwritten(unwritten)
+    }
+}
+
+impl From<Lost> for Ended {
+    fn from(_: Lost) -> Self {
+        Ended::Lost
+    }
+}
+
+fn run(arguments: &Arguments, output: &mut Output) -> Result<Status, Instead> {
+    let asked = Asked::of(arguments)?;
+    let mut walk = match Walk::open(&asked.source, true) {
+        None => return Ok(Status::Failed),
+        Some(walk) => walk,
+    };
+    let look = Look {
+        watch: asked.watch,
+        kind: asked.kind,
+        name: walk.name().to_string(),
+    };
+    output
+        .bytes
+        .extend_from_slice(rows::header(asked.kind).as_bytes());
+    let mut teller = Teller::new(look.clone());
+    let ended = replay(
+        &mut walk,
+        &mut Jobs::new(look, asked.jobs),
+        &mut teller,
+        output,
+    );
+    let status = walk.status();
+    Ok(match ended {
+        Ok(()) => {
+            let found = teller.end(output, walk.damages());
+            written(output.flush(), status.max(found))
+        }
+        // whoever read it has gone: what came behind was not looked at
+        Err(Ended::Unwritten(unwritten)) => {
+            let seen = status.max(teller.status()).max(Status::Unsure);
+            written(Err(unwritten), seen)
+        }
+        Err(Ended::Lost) => {
+            complain(format_args!(
+                "{}: not every record was looked at",
+                walk.name()
+            ));
+            Status::Failed
+        }
+    })
+}
+
+fn replay(
+    walk: &mut Walk,
+    jobs: &mut Jobs,
+    teller: &mut Teller,
+    output: &mut Output,
+) -> Result<(), Ended> {
+    loop {
+        let (block, ended) = Block::fill(walk);
+        if block.pairs > 0 {
+            if let Some(seen) = jobs.put(block)? {
+                teller.take(seen, output)?;
+            }
+        }
+        if ended || walk.has_complaint() || walk.may_wait() {
+            while let Some(seen) = jobs.take()? {
+                teller.take(seen, output)?;
+            }
+            output.flush()?;
+            walk.complain();
+        }
+        if ended {
+            return Ok(());
+        }
+    }
+}

@@ -1,0 +1,94 @@
+//! Puts together what was seen in the blocks of a trace, and tells it.
+use super::answer::Answer;
+use super::block::{Look, Seen};
+use super::reasons::Reasons;
+use super::rows::Over;
+use super::{rows, Ended};
+use crate::output::Output;
+use crate::status::Status;
+use machhurel::Watch;
+
+pub(super) struct Teller {
+    look: Look,
+    /// The watch that goes on, and the number of its first record.
+    watch: Watch,
+    from: u64,
+    /// The watches that are full.
+    before: Option<Answer>,
+    reasons: Reasons,
+}
+
+impl Teller {
+    pub(super) fn new(look: Look) -> Teller {
+        Teller {
+            watch: look.watch,
+            look,
+            from: 0,
+            before: None,
+            reasons: Reasons::new(),
+        }
+    }
+
+    /// Takes what was seen in the next block of the trace.
+    pub(super) fn take(&mut self, seen: Seen, output: &mut Output) -> Result<(), Ended> {
+        if !seen.is_whole() {
+            return Err(Ended::Lost);
+        }
+        match self.watch.then(&seen.watch) {
+            Some(watch) => self.watch = watch,
+            None => {
+                self.put_watch(output);
+                self.before = Some(self.answer());
+                self.watch = seen.watch;
+                self.from = seen.first;
+                let Look { kind, name, .. } = &self.look;
+                rows::put_further(&mut output.bytes, *kind, name, seen.first);
+            }
+        }
+        output.bytes.extend_from_slice(&seen.lines);
+        for (record, why) in seen.unsure {
+            self.reasons.add(record, why);
+        }
+        Ok(output.flush_much()?)
+    }
+
+    /// The answer over all watches so far.
+    fn answer(&self) -> Answer {
+        let last = Answer::of(&self.watch, self.from);
+        self.before.map_or(last, |before| before.then(&last))
+    }
+
+    /// Says what the watch that goes on has seen.
+    fn put_watch(&self, output: &mut Output) {
+        self.put_answer(output, Over::One, &Answer::of(&self.watch, self.from));
+    }
+
+    fn put_answer(&self, output: &mut Output, over: Over, answer: &Answer) {
+        let Look { kind, name, watch } = &self.look;
+        rows::put_answer(&mut output.bytes, *kind, name, watch, over, answer);
+    }
+
+    /// Says what came of it all.
+    pub(super) fn end(&self, output: &mut Output, damages: u64) -> Status {
+        let over = match self.before {
+            None => Over::Trace,
+            Some(_) => {
+                self.put_watch(output);
+                Over::All
+            }
+        };
+        self.put_answer(output, over, &self.answer());
+        let Look { kind, name, .. } = &self.look;
+        rows::put_reasons(&mut output.bytes, *kind, name, &self.reasons, damages);
+        self.status()
+    }
+
+    pub(super) fn status(&self) -> Status {
+        let answer = self.answer();
+        match (answer.tally.part, answer.is_complete()) {
+            (0, true) => Status::Done,
+            (0, false) => Status::Unsure,
+            _ => Status::Found,
+        }
+    }
+}
