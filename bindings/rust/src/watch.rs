@@ -268,4 +268,4 @@ impl Iterator for Names<'_> {
     }
 }
 
-impl std::iter::FusedIterator for Names<'_> {}
+impl core::iter::FusedIterator for Names<'_> {}
