@@ -446,6 +446,22 @@ fn a_million_pairs_are_one_watch() {
 }
 
 #[test]
+fn register_files_without_records_take_no_memory() {
+    let place = folder("watch_files");
+    let mut trace = RegisterFile::new().with(Known::Rip, 7).repeat(600_000);
+    trace.extend_from_slice(&store(Some(0x1008), 4));
+    std::fs::write(place.join("files.trace"), &trace).unwrap();
+    let mut shell = Command::new("sh");
+    let script = "ulimit -v 65536; exec \"$0\" watch files.trace 0x1008 8";
+    shell.args(["-c", script, COMMAND]).current_dir(&place);
+    let ran: Ran = shell.output().unwrap().into();
+    assert_eq!((ran.status, ran.errors.as_str()), (Some(3), ""));
+    let first = "0  0x7  write [0x0000000000001008] 4 bytes: bytes 0 to 3 of 8\n";
+    assert!(ran.output.starts_with(first), "{}", ran.output);
+    std::fs::remove_dir_all(&place).unwrap();
+}
+
+#[test]
 fn many_jobs_over_files_that_change_say_what_one_says() {
     let path = folder("watch_jobs").join("mixed.trace");
     std::fs::write(&path, torn().repeat(5_000)).unwrap();

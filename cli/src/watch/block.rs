@@ -8,6 +8,8 @@ use machhurel::{known, visit, Class, Items, Known, Step, Verdict, Watch, LOG_BYT
 
 /// So many pairs are looked at in one go.
 const PAIRS: u64 = 4_096;
+/// So many bytes end a block too: register files may follow each other without a record.
+const BYTES: usize = 1 << 20;
 
 /// Items that follow each other, and the register file before them.
 pub(super) struct Block {
@@ -39,8 +41,9 @@ impl Block {
                     block.pairs = block.pairs.saturating_add(1);
                 }
             }
-            let full = walk.records().checked_rem(WATCH_PAIRS) == Some(0);
-            if block.pairs >= PAIRS || (full && block.pairs > 0) || walk.may_wait() {
+            let full = walk.records().checked_rem(WATCH_PAIRS) == Some(0) && block.pairs > 0;
+            let much = block.pairs >= PAIRS || block.items.len() >= BYTES;
+            if full || much || walk.may_wait() {
                 return (block, false);
             }
         }
