@@ -9,7 +9,7 @@ ghost use lib.Dec.{ltb};
 ghost use Rattle.laws.specs.Words.{bit};
 ghost use Rattle.laws.specs.Tests.{any};
 ghost use Rattle.registers.specs.Banks.{isRegister};
-ghost use Rattle.record.specs.Records.{regFrom, recordOf, outside, refusedRecord, recordAnswer, specAt, regAt, vexW, rexW, operandSize, addressSize};
+ghost use Rattle.record.specs.Records.{regFrom, recordOf, outside, recordRefusal, refusedRecord, recordAnswer, specAt, regAt, vexW, rexW, operandSize, addressSize};
 
 // The fields of a record, in their order: `size` is document 01's `mem_size`.
 pub struct Record {
@@ -37,14 +37,9 @@ impl Record {
     pub fn from_bytes(b: &[u8]) -> RecordAnswer
         ensures { λ r. ⌜ r ≡ recordAnswer (now (b .entry)) ⌝ }
     {
-        if b.len() != 40 {
-            return Record::refused(1);
-        }
-        if b[0] != 0x10 {
-            return Record::refused(1);
-        }
-        if is_outside(b) {
-            return Record::refused(2);
+        let number = refusal_of(b);
+        if number != 0 {
+            return Record::refused(number);
         }
         let read = Record::parse(b);
         RecordAnswer {
@@ -82,7 +77,7 @@ impl Record {
         }
     }
 
-    fn parse(b: &[u8]) -> Record
+    pub fn parse(b: &[u8]) -> Record
         requires { ⌜ length (now b) ≡ 40 ⌝ }
         ensures { λ r. ⌜ r ≡ recordOf (now (b .entry)) ⌝ }
     {
@@ -157,6 +152,22 @@ impl Record {
     {
         has_bit(self.prefixes, 3)
     }
+}
+
+// The refusal of a record's bytes: 1 or 2, or 0.
+pub fn refusal_of(b: &[u8]) -> u8
+    ensures { λ r. ⌜ r ≡ recordRefusal (now (b .entry)) ⌝ }
+{
+    if b.len() != 40 {
+        return 1;
+    }
+    if b[0] != 0x10 {
+        return 1;
+    }
+    if is_outside(b) {
+        return 2;
+    }
+    0
 }
 
 fn has_bit(v: u8, k: u8) -> bool
