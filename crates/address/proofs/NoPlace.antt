@@ -21,11 +21,94 @@ module _ (f : RegisterFile) (l : ℕ) (p : l ≡ 15 → ⊥) (q : l ≡ 16 → �
   in-table : (ltb l 29 ≡ true) → Unknown ≡ impliedPlace f l
   unfolding impliedPlace implicitOf listPlace entryPlace operandPlace
   in-table e =
-      span-but (λ (k : ℕ). Unknown ≡ impliedPlace f k) l 0 29
-      (inr refl, (inr refl, (inr refl, (inr refl, (inr refl, (inr refl, (inr refl, (inr refl, (inr refl, (inr refl,
-      (inr refl, (inr refl, (inr refl, (inr refl, (inr refl, (inl p, (inl q, (inr refl, (inr refl, (inr refl,
-      (inr refl, (inr refl, (inr refl, (inr refl, (inr refl, (inr refl, (inl r, (inl s, (inl t,
-      tt)))))))))))))))))))))))))))))
+      span-but (λ (k : ℕ). Unknown ≡ impliedPlace f k) l 0 29 (
+        inr refl,
+        (
+          inr refl,
+          (
+            inr refl,
+            (
+              inr refl,
+              (
+                inr refl,
+                (
+                  inr refl,
+                  (
+                    inr refl,
+                    (
+                      inr refl,
+                      (
+                        inr refl,
+                        (
+                          inr refl,
+                          (
+                            inr refl,
+                            (
+                              inr refl,
+                              (
+                                inr refl,
+                                (
+                                  inr refl,
+                                  (
+                                    inr refl,
+                                    (
+                                      inl p,
+                                      (
+                                        inl q,
+                                        (
+                                          inr refl,
+                                          (
+                                            inr refl,
+                                            (
+                                              inr refl,
+                                              (
+                                                inr refl,
+                                                (
+                                                  inr refl,
+                                                  (
+                                                    inr refl,
+                                                    (
+                                                      inr refl,
+                                                      (
+                                                        inr refl,
+                                                        (
+                                                          inr refl,
+                                                          (
+                                                            inl r,
+                                                            (
+                                                              inl s,
+                                                              (
+                                                                inl t,
+                                                                tt,
+                                                              ),
+                                                            ),
+                                                          ),
+                                                        ),
+                                                      ),
+                                                    ),
+                                                  ),
+                                                ),
+                                              ),
+                                            ),
+                                          ),
+                                        ),
+                                      ),
+                                    ),
+                                  ),
+                                ),
+                              ),
+                            ),
+                          ),
+                        ),
+                      ),
+                    ),
+                  ),
+                ),
+              ),
+            ),
+          ),
+        ),
+      )
       zero-le (ltb-true l 29 e)
 
   pub no-place : Unknown ≡ impliedPlace f l

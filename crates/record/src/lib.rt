@@ -4,7 +4,8 @@ use registers::RegSpec;
 ghost use mathlib.Core.Path.{_≡_};
 ghost use mathlib.Core.Bool.{not};
 ghost use Prim.Native.Nat.{_+_, _≤_, _<_};
-ghost use lib.ListN.{length};
+ghost use mathlib.Core.List.{_∷_, []};
+ghost use lib.ListN.{length, getD};
 ghost use lib.Dec.{ltb};
 ghost use Rattle.laws.specs.Words.{bit};
 ghost use Rattle.laws.specs.Tests.{any};
@@ -108,15 +109,20 @@ impl Record {
         }
     }
 
-    // The four are taken out before one is chosen: else the whole record is copied for it.
+    // One of four numbers, by a test for each: an array that is asked at a place lies in memory.
     pub fn spec(self, i: u8) -> u8
         ensures { λ r. ⌜ r ≡ specAt self i ⌝ }
     {
-        let specs = self.specs;
-        let k = i as usize;
-        if k < 4 { specs[k] } else { 0 }
+        one_of(
+            i,
+            self.specs[0],
+            self.specs[1],
+            self.specs[2],
+            self.specs[3],
+        )
     }
 
+    // The four are taken out before one is chosen: else the whole record is copied for it.
     pub fn reg_at(self, i: u8) -> RegSpec
         ensures { λ r. ⌜ r ≡ regAt self i ⌝ }
     {
@@ -168,6 +174,18 @@ pub fn refusal_of(b: &[u8]) -> u8
         return 2;
     }
     0
+}
+
+fn one_of(i: u8, a: u8, b: u8, c: u8, d: u8) -> u8
+    ensures { λ r. ⌜ r ≡ getD (a ∷ b ∷ c ∷ d ∷ []) i 0 ⌝ }
+{
+    match i {
+        0 => a,
+        1 => b,
+        2 => c,
+        3 => d,
+        _ => 0,
+    }
 }
 
 fn has_bit(v: u8, k: u8) -> bool

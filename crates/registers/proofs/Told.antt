@@ -80,8 +80,8 @@ module _ (f : RegisterFile) where
       w = getD (f .values) (n % 4) 0
 
       by : (t : Bool) → ltb n 4 ≡ t
-         → partValue f (cond (ltb n 8) (part (cond t n (n - 4)) (cond t 0 8) 8) nowhere)
-         ≡ cond (ltb n 8 && bit (f .known) (n % 4)) (Known (cond (ltb 3 n) (w / 256 % 256) (w % 256))) Unknown
+          → partValue f (cond (ltb n 8) (part (cond t n (n - 4)) (cond t 0 8) 8) nowhere)
+          ≡ cond (ltb n 8 && bit (f .known) (n % 4)) (Known (cond (ltb 3 n) (w / 256 % 256) (w % 256))) Unknown
       by true e =
           let h : n < 4 = ltb-true n 4 e in
           let g : n ≤ 3 = omega arith in
@@ -113,19 +113,40 @@ module _ (f : RegisterFile) where
   tells : (b : ℕ) → b < 11 → Tells b
   unfolding isTold toldNumbers toldSlot toldPart
   tells b h =
-      span Tells 0 11
-      (tells-whole,
-      ((λ n h. bottom-bank n 16 32 (lit≤ tt)),
-      ((λ n h. bottom-bank n 16 16 (lit≤ tt)),
-      ((λ n h. bottom-bank n 16 8 (lit≤ tt)),
-      ((λ n h. byte-bank n),
-      ((λ n h. untold n (ltb n 32) _ _),
-      ((λ n h. untold n (ltb n 32) _ _),
-      ((λ n h. untold n (ltb n 32) _ _),
-      ((λ n h. untold n (ltb n 8) _ _),
-      (tells-pointer,
-      ((λ n h. pointer-bank n 32),
-      tt)))))))))))
+      span Tells 0 11 (
+        tells-whole,
+        (
+          (λ n h. bottom-bank n 16 32 (lit≤ tt)),
+          (
+            (λ n h. bottom-bank n 16 16 (lit≤ tt)),
+            (
+              (λ n h. bottom-bank n 16 8 (lit≤ tt)),
+              (
+                (λ n h. byte-bank n),
+                (
+                  (λ n h. untold n (ltb n 32) _ _),
+                  (
+                    (λ n h. untold n (ltb n 32) _ _),
+                    (
+                      (λ n h. untold n (ltb n 32) _ _),
+                      (
+                        (λ n h. untold n (ltb n 8) _ _),
+                        (
+                          tells-pointer,
+                          (
+                            (λ n h. pointer-bank n 32),
+                            tt,
+                          ),
+                        ),
+                      ),
+                    ),
+                  ),
+                ),
+              ),
+            ),
+          ),
+        ),
+      )
       b zero-le h
 
   tells-none : (b : ℕ) → 11 ≤ b → Tells b
@@ -152,8 +173,8 @@ module _ (f : RegisterFile) where
   told x p q r u h = rw (q, r, u, p) (sym (by (x .bank) (x .number) (rw p at h)))
     where
       by : (b n : ℕ) → getD (f .values) (toldSlot (reg b n)) 0 < 2 ^ 64
-         → partValue f (cond (ltb n (getD bankNumbers b 0)) (getD (bankParts n) b nowhere) nowhere)
-         ≡ cond (isTold (reg b n) && bit (f .known) (toldSlot (reg b n))) (Known (toldPart (reg b n) (getD (f .values) (toldSlot (reg b n)) 0))) Unknown
+          → partValue f (cond (ltb n (getD bankNumbers b 0)) (getD (bankParts n) b nowhere) nowhere)
+          ≡ cond (isTold (reg b n) && bit (f .known) (toldSlot (reg b n))) (Known (toldPart (reg b n) (getD (f .values) (toldSlot (reg b n)) 0))) Unknown
       by b n h = within (ltb b 11) refl
         where
           within : (t : Bool) → ltb b 11 ≡ t → partValue f (cond (ltb n (getD bankNumbers b 0)) (getD (bankParts n) b nowhere) nowhere) ≡ cond (isTold (reg b n) && bit (f .known) (toldSlot (reg b n))) (Known (toldPart (reg b n) (getD (f .values) (toldSlot (reg b n)) 0))) Unknown

@@ -41,11 +41,94 @@ module _ (f : RegisterFile) (x : Record) where
 
   each-list : all Listed 0 29
   unfolding implicitOf listEvents impliedPlace listPlace entryPlace operandPlace entrySteps implicitStep each stepEvents flat registersOf termRegisters maskRegisters
-  each-list =
-      (refl, (refl, (refl, (refl, (refl, (refl, (refl, (refl, (refl, (refl,
-      (refl, (refl, (refl, (refl, (refl, (refl, (refl, (refl, (refl, (refl,
-      (refl, (refl, (refl, (refl, (slot 0, (slots, (refl, (refl, (refl,
-      tt)))))))))))))))))))))))))))))
+  each-list = (
+    refl,
+    (
+      refl,
+      (
+        refl,
+        (
+          refl,
+          (
+            refl,
+            (
+              refl,
+              (
+                refl,
+                (
+                  refl,
+                  (
+                    refl,
+                    (
+                      refl,
+                      (
+                        refl,
+                        (
+                          refl,
+                          (
+                            refl,
+                            (
+                              refl,
+                              (
+                                refl,
+                                (
+                                  refl,
+                                  (
+                                    refl,
+                                    (
+                                      refl,
+                                      (
+                                        refl,
+                                        (
+                                          refl,
+                                          (
+                                            refl,
+                                            (
+                                              refl,
+                                              (
+                                                refl,
+                                                (
+                                                  refl,
+                                                  (
+                                                    slot 0,
+                                                    (
+                                                      slots,
+                                                      (
+                                                        refl,
+                                                        (
+                                                          refl,
+                                                          (
+                                                            refl,
+                                                            tt,
+                                                          ),
+                                                        ),
+                                                      ),
+                                                    ),
+                                                  ),
+                                                ),
+                                              ),
+                                            ),
+                                          ),
+                                        ),
+                                      ),
+                                    ),
+                                  ),
+                                ),
+                              ),
+                            ),
+                          ),
+                        ),
+                      ),
+                    ),
+                  ),
+                ),
+              ),
+            ),
+          ),
+        ),
+      ),
+    ),
+  )
 
   past-last : (l : ℕ) → 29 ≤ l → Listed l
   unfolding implicitOf listEvents each

@@ -93,8 +93,8 @@ module _ (f : RegisterFile) (x : Record) where
   memory Read b i d m p q = rw (← p, ← q) (by (isLea x))
     where
       by : (t : Bool)
-         → eventsOf f (cond t (map reads (registersOf (operandAddress x b i d)) ++ map reads (maskRegisters (maskFor x m))) (touches Read (operandAddress x b i d) (maskFor x m) (x .size) ∷ []))
-         ≡ flat (moved Read (registersOf (operandAddress x b i d)) ∷ moved Read (maskRegisters (maskFor x m)) ∷ cond t [] (memoryEvent Read (addressOf f (operandAddress x b i d)) (x .size) ∷ []) ∷ [])
+          → eventsOf f (cond t (map reads (registersOf (operandAddress x b i d)) ++ map reads (maskRegisters (maskFor x m))) (touches Read (operandAddress x b i d) (maskFor x m) (x .size) ∷ []))
+          ≡ flat (moved Read (registersOf (operandAddress x b i d)) ∷ moved Read (maskRegisters (maskFor x m)) ∷ cond t [] (memoryEvent Read (addressOf f (operandAddress x b i d)) (x .size) ∷ []) ∷ [])
       by true = stopped (registersOf (operandAddress x b i d)) (maskRegisters (maskFor x m))
       by false = touched Read (operandAddress x b i d) (maskFor x m) (x .size)
   memory Write b i d m p q = rw (← p, ← q) (touched Write (operandAddress x b i d) (maskFor x m) (x .size))
@@ -134,21 +134,115 @@ module _ (f : RegisterFile) (x : Record) where
 
   each-part : (w : Way) → all (Part w) 0 36
   unfolding shapeOf partEvents sourcesOf registersOf operandAddress baseOf indexOf offsetOf termRegisters
-  each-part w =
-      (nothing w,
-      (plain w 0, (plain w 1, (plain w 3, (fourth w,
-      (masked w 0, (masked w 0, (masked w 0, (masked w 1, (masked w 1, (masked w 3,
-      (immediate w, (immediate w, (immediate w, (immediate w, (immediate w, (immediate w, (immediate w,
-      (deref w Based false NoDisp false y _ refl (at-register f y), (deref w Based false NoDisp true y _ refl (at-register f y),
-      (deref w (Named rdi) false NoDisp false rdi _ refl (at-register f rdi), (deref w (Named rsi) false NoDisp false rsi _ refl (at-register f rsi),
-      (deref w (Named edi) false NoDisp false edi _ refl (at-register f edi ∙ low-rdi f), (deref w (Named esi) false NoDisp false esi _ refl (at-register f esi ∙ low-rsi f),
-      (deref w Based false Disp32 false y _ refl (at-disp f y n), (deref w Based false Disp32 true y _ refl (at-disp f y n),
-      (deref w NoBase true NoDisp false z _ refl (at-index f z k), (deref w NoBase true NoDisp true z _ refl (at-index f z k),
-      (deref w NoBase true Disp32 false z _ refl (at-index-disp f z k n), (deref w NoBase true Disp32 true z _ refl (at-index-disp f z k n),
-      (indexed w NoDisp false _ (at-both f y z k), (indexed w NoDisp true _ (at-both f y z k),
-      (indexed w Disp32 false _ (at-both-disp f y z k n), (indexed w Disp32 true _ (at-both-disp f y z k n),
-      (absolute w DispU64 _ (at-number f (x .disp)), (absolute w DispU32 _ (at-number f (x .disp % 2 ^ 32)),
-      tt))))))))))))))))))))))))))))))))))))
+  each-part w = (
+    nothing w,
+    (
+      plain w 0,
+      (
+        plain w 1,
+        (
+          plain w 3,
+          (
+            fourth w,
+            (
+              masked w 0,
+              (
+                masked w 0,
+                (
+                  masked w 0,
+                  (
+                    masked w 1,
+                    (
+                      masked w 1,
+                      (
+                        masked w 3,
+                        (
+                          immediate w,
+                          (
+                            immediate w,
+                            (
+                              immediate w,
+                              (
+                                immediate w,
+                                (
+                                  immediate w,
+                                  (
+                                    immediate w,
+                                    (
+                                      immediate w,
+                                      (
+                                        deref w Based false NoDisp false y _ refl (at-register f y),
+                                        (
+                                          deref w Based false NoDisp true y _ refl (at-register f y),
+                                          (
+                                            deref w (Named rdi) false NoDisp false rdi _ refl (at-register f rdi),
+                                            (
+                                              deref w (Named rsi) false NoDisp false rsi _ refl (at-register f rsi),
+                                              (
+                                                deref w (Named edi) false NoDisp false edi _ refl (at-register f edi ∙ low-rdi f),
+                                                (
+                                                  deref w (Named esi) false NoDisp false esi _ refl (at-register f esi ∙ low-rsi f),
+                                                  (
+                                                    deref w Based false Disp32 false y _ refl (at-disp f y n),
+                                                    (
+                                                      deref w Based false Disp32 true y _ refl (at-disp f y n),
+                                                      (
+                                                        deref w NoBase true NoDisp false z _ refl (at-index f z k),
+                                                        (
+                                                          deref w NoBase true NoDisp true z _ refl (at-index f z k),
+                                                          (
+                                                            deref w NoBase true Disp32 false z _ refl (at-index-disp f z k n),
+                                                            (
+                                                              deref w NoBase true Disp32 true z _ refl (at-index-disp f z k n),
+                                                              (
+                                                                indexed w NoDisp false _ (at-both f y z k),
+                                                                (
+                                                                  indexed w NoDisp true _ (at-both f y z k),
+                                                                  (
+                                                                    indexed w Disp32 false _ (at-both-disp f y z k n),
+                                                                    (
+                                                                      indexed w Disp32 true _ (at-both-disp f y z k n),
+                                                                      (
+                                                                        absolute w DispU64 _ (at-number f (x .disp)),
+                                                                        (
+                                                                          absolute w DispU32 _ (at-number f (x .disp % 2 ^ 32)),
+                                                                          tt,
+                                                                        ),
+                                                                      ),
+                                                                    ),
+                                                                  ),
+                                                                ),
+                                                              ),
+                                                            ),
+                                                          ),
+                                                        ),
+                                                      ),
+                                                    ),
+                                                  ),
+                                                ),
+                                              ),
+                                            ),
+                                          ),
+                                        ),
+                                      ),
+                                    ),
+                                  ),
+                                ),
+                              ),
+                            ),
+                          ),
+                        ),
+                      ),
+                    ),
+                  ),
+                ),
+              ),
+            ),
+          ),
+        ),
+      ),
+    ),
+  )
     where
       y : RegSpec
       y = regAt x 1

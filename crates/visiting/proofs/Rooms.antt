@@ -89,8 +89,8 @@ module _ (bad : Bool) (b : List ℕ) (f : RegisterFile) where
   shifted number opcode buffer start e = by (eqb number 0) (eqb number 4) e
     where
       by : (s t : Bool) {r : Answer} {ys : List ℕ}
-         → _≡_ {A = Answer × List ℕ} (r, ys) (cond s (Done (length bytes), splice (part buffer start) 0 bytes) (cond t (Complex opcode, part buffer start) (Refused number, part buffer start)))
-         → _≡_ {A = Answer × List ℕ} (r, back buffer start ys) (cond s (Done (length bytes), splice buffer start bytes) (cond t (Complex opcode, buffer) (Refused number, buffer)))
+          → _≡_ {A = Answer × List ℕ} (r, ys) (cond s (Done (length bytes), splice (part buffer start) 0 bytes) (cond t (Complex opcode, part buffer start) (Refused number, part buffer start)))
+          → _≡_ {A = Answer × List ℕ} (r, back buffer start ys) (cond s (Done (length bytes), splice buffer start bytes) (cond t (Complex opcode, buffer) (Refused number, buffer)))
       by true t e = ap (λ (v : Answer × List ℕ). (v .0, back buffer start (v .1))) e ∙ rw (spliced-part buffer start bytes)
       by false true e = ap (λ (v : Answer × List ℕ). (v .0, back buffer start (v .1))) e ∙ rw (same-part buffer start)
       by false false e = ap (λ (v : Answer × List ℕ). (v .0, back buffer start (v .1))) e ∙ rw (same-part buffer start)
@@ -128,8 +128,8 @@ module _ (bad : Bool) (b : List ℕ) (f : RegisterFile) where
       ap (λ (v : Answer × List ℕ). laidOut (v .0) (v .1) buffer start) e ∙ rw (ne-eqb number 0 ne) (by (eqb number 4))
     where
       by : (t : Bool)
-         → laidOut (cond {A = Answer × List ℕ} t (Complex opcode, aside) (Refused number, aside) .0) (cond {A = Answer × List ℕ} t (Complex opcode, aside) (Refused number, aside) .1) buffer start
-         ≡ cond t (Complex opcode, buffer) (Refused number, buffer)
+          → laidOut (cond {A = Answer × List ℕ} t (Complex opcode, aside) (Refused number, aside) .0) (cond {A = Answer × List ℕ} t (Complex opcode, aside) (Refused number, aside) .1) buffer start
+          ≡ cond t (Complex opcode, buffer) (Refused number, buffer)
       by true = refl
       by false = refl
 

@@ -35,22 +35,22 @@ fn refusal_of(x: Record) -> u8
 }
 
 // A record after fix-ups, where the longest log has room.
-fn visit_record(x: Record, f: RegisterFile, log: &mut [u8]) -> Answer
+fn visit_record(fixed: Record, f: RegisterFile, log: &mut [u8]) -> Answer
     requires { ⌜ 177 ≤ length (now log) ⌝ }
-    ensures { λ r. ⌜ (r, now (log .exit)) ≡ visitRecord x f (now (log .entry)) 0 ⌝ }
+    ensures { λ r. ⌜ (r, now (log .exit)) ≡ visitRecord fixed f (now (log .entry)) 0 ⌝ }
 {
-    let number = refusal_of(x);
-    match number {
+    let refusal = refusal_of(fixed);
+    match refusal {
         0 => {
-            let at = address::resolve(f, x);
-            Answer::Done(steps::put_log(log, x, at))
+            let at = address::resolve(f, fixed);
+            Answer::Done(steps::put_log(log, fixed, at))
         }
-        4 => Answer::Complex(x.opcode),
-        _ => Answer::Refused(number),
+        4 => Answer::Complex(fixed.opcode),
+        _ => Answer::Refused(refusal),
     }
 }
 
-// Where the longest log has room.
+// Where the longest log has room. The file is parsed where it is asked: seventeen values held over the refusals would be copied twice.
 fn visit_roomy(b: &[u8], file: &[u8], log: &mut [u8]) -> Answer
     requires { ⌜ 177 ≤ length (now log) ⌝ }
     ensures { λ r. ⌜ (r, now (log .exit)) ≡ visitOf (now (b .entry)) (now (file .entry)) (now (log .entry)) 0 ⌝ }
@@ -64,7 +64,16 @@ fn visit_roomy(b: &[u8], file: &[u8], log: &mut [u8]) -> Answer
         return Answer::Refused(unfiled);
     }
     let read = Record::parse(b);
-    visit_record(fixups::fixed_up(read), RegisterFile::parse(file), log)
+    let x = fixups::fixed_up(read);
+    let number = refusal_of(x);
+    match number {
+        0 => {
+            let at = address::resolve(RegisterFile::parse(file), x);
+            Answer::Done(steps::put_log(log, x, at))
+        }
+        4 => Answer::Complex(x.opcode),
+        _ => Answer::Refused(number),
+    }
 }
 
 fn visit_roomy_under(b: &[u8], f: RegisterFile, log: &mut [u8]) -> Answer
