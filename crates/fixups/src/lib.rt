@@ -40,8 +40,8 @@ pub fn digest_of(x: Record) -> BehaviorDigest
 pub fn fixed_up(mut x: Record) -> Record
     ensures { λ r. ⌜ r ≡ fixedUp x ⌝ }
 {
-    let d = x.digest;
-    if d.is_nontrivial() {
+    let base = x.digest;
+    if base.is_nontrivial() {
         let changed = rules::fix_fields(
             x.opcode,
             x.count,
@@ -49,7 +49,7 @@ pub fn fixed_up(mut x: Record) -> Record
             x.regs[1].bank,
             x.size,
             x.prefixes,
-            d,
+            base,
         );
         x.digest = changed;
         return x;
