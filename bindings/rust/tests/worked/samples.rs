@@ -1,4 +1,5 @@
-// Records and register files, by what is not 0 in them. Where a row does not say: opcode 40, no operand, access 0x01, size 8.
+//! Records and register files, by what is not 0 in them. Where a row does not say: opcode 40, no operand, access 0x01, size 8.
+
 // Places in a record.
 pub const OPCODE: usize = 1;
 
@@ -30,7 +31,7 @@ pub const BEHAVIOR: usize = 36;
 
 pub const LIST: usize = 38;
 
-// Specs.
+/// Specs.
 pub const REG_RRR: u8 = 1;
 
 pub const REG_MMM: u8 = 2;
@@ -43,7 +44,7 @@ pub const MEM_INDEX_SCALE: u8 = 26;
 
 pub const DISP_U32: u8 = 35;
 
-// Banks.
+/// Banks.
 pub const D: u8 = 1;
 
 pub const W: u8 = 2;
@@ -54,15 +55,13 @@ pub const X: u8 = 5;
 
 pub const EIP: u8 = 10;
 
-pub(crate) fn with(mut bytes: [u8; 40], place: usize, value: u8) -> [u8; 40] {
-    if place < 40 {
-        bytes[place] = value;
-    }
+pub fn with(mut bytes: [u8; 40], place: usize, value: u8) -> [u8; 40] {
+    bytes[place] = value;
     bytes
 }
 
-// No more than the first two specs.
-pub(crate) fn operands(count: u8, first: u8, second: u8, access: u8) -> [u8; 40] {
+/// No more than the first two specs.
+pub fn operands(count: u8, first: u8, second: u8, access: u8) -> [u8; 40] {
     let mut bytes = [0u8; 40];
     bytes[0] = 0x10;
     bytes[1] = 40;
@@ -74,13 +73,13 @@ pub(crate) fn operands(count: u8, first: u8, second: u8, access: u8) -> [u8; 40]
     bytes
 }
 
-// No operand.
-pub(crate) fn plain() -> [u8; 40] {
+/// No operand.
+pub fn plain() -> [u8; 40] {
     operands(0, 0, 0, 0x01)
 }
 
-// An opcode with one operand.
-pub(crate) fn one(opcode: u8, behavior: u8, spec: u8) -> [u8; 40] {
+/// An opcode with one operand.
+pub fn one(opcode: u8, behavior: u8, spec: u8) -> [u8; 40] {
     with(
         with(operands(1, spec, 0, 0x01), OPCODE, opcode),
         BEHAVIOR,
@@ -88,29 +87,29 @@ pub(crate) fn one(opcode: u8, behavior: u8, spec: u8) -> [u8; 40] {
     )
 }
 
-// An implicit list, and no operand.
-pub(crate) fn listed(list: u8) -> [u8; 40] {
+/// An implicit list, and no operand.
+pub fn listed(list: u8) -> [u8; 40] {
     with(plain(), LIST, list)
 }
 
-// Displacement 0xFFFFFFF8.
-pub(crate) fn minus_8(bytes: [u8; 40]) -> [u8; 40] {
+/// Displacement 0xFFFFFFF8.
+pub fn minus_8(bytes: [u8; 40]) -> [u8; 40] {
     let low = with(with(bytes, DISP, 0xF8), DISP + 1, 0xFF);
     with(with(low, DISP + 2, 0xFF), DISP + 3, 0xFF)
 }
 
-// A file that knows nothing.
-pub(crate) fn unknown() -> [u8; 141] {
+/// A file that knows nothing.
+pub fn unknown() -> [u8; 141] {
     let mut bytes = [0u8; 141];
     bytes[0] = 0x20;
     bytes
 }
 
-// A file that knows one of the first eight registers more.
-pub(crate) fn knowing(mut bytes: [u8; 141], register: u8, value: u64) -> [u8; 141] {
+/// A file that knows one of the first eight registers more.
+pub fn knowing(mut bytes: [u8; 141], register: u8, value: u64) -> [u8; 141] {
     if register < 8 {
         let place = 5 + 8 * (register as usize);
-        laws::put_u64(&mut bytes[place..], value);
+        bytes[place..place + 8].copy_from_slice(&value.to_le_bytes());
         bytes[1] = bytes[1] | (1u8 << register);
     }
     bytes
