@@ -1,8 +1,12 @@
 //! `machhurel watch`: who tore a variable.
+mod across;
 mod answer;
 mod block;
+mod html;
 mod jobs;
+mod moment;
 mod reasons;
+mod records;
 mod rows;
 mod table;
 mod teller;
@@ -21,8 +25,10 @@ use crate::source::Source;
 use crate::status::Status;
 use crate::walk::Walk;
 use block::{Block, Look};
+use html::Target;
 use jobs::{Jobs, Lost};
 use machhurel::Watch;
+use std::ffi::OsString;
 use teller::Teller;
 
 pub(crate) const COMMAND: Command = Command {
@@ -45,9 +51,16 @@ Exit status of watch: 0 no store wrote part of the variable, and the answer is c
 seen to, and the answer is not complete; 1 the trace could not be opened, is damaged or cut, or output could not be written; 2 wrong
 usage. Where several hold it is the one that comes first of 2, 1, 3, 4.
 ",
-    choices: &[FORMAT, JOBS],
+    choices: &[FORMAT, HTML, JOBS],
     closing: help::trace,
     run,
+};
+
+const HTML: Choice = Choice {
+    name: "--html",
+    value: "FILE",
+    values: &[],
+    words: "write it as a page too, with its reads, a timeline and close-ups: one file, without script, under 100 KB",
 };
 
 const JOBS: Choice = Choice {
@@ -63,6 +76,7 @@ struct Asked {
     watch: Watch,
     kind: Kind,
     jobs: u64,
+    html: Option<OsString>,
 }
 
 impl Asked {
@@ -91,6 +105,7 @@ impl Asked {
             watch: watch.ok_or_else(|| expected("LENGTH", &length, "1 to 8"))?,
             kind: Kind::of(arguments),
             jobs,
+            html: arguments.last_typed(&HTML).map(OsString::from),
         })
     }
 }
@@ -116,6 +131,18 @@ impl From<Lost> for Ended {
 
 fn run(arguments: &Arguments, output: &mut Output) -> Result<Status, Instead> {
     let asked = Asked::of(arguments)?;
+    let target = asked
+        .html
+        .as_ref()
+        .map(|name| Target::of(name, &asked.source));
+    let target = match target.transpose() {
+        Ok(target) => target,
+        Err(words) => {
+            complain(format_args!("{words}"));
+            return Ok(Status::Failed);
+        }
+    };
+    output.outlives_reader = target.is_some();
     let mut walk = match Walk::open(&asked.source, true) {
         None => return Ok(Status::Failed),
         Some(walk) => walk,
@@ -124,6 +151,7 @@ fn run(arguments: &Arguments, output: &mut Output) -> Result<Status, Instead> {
         watch: asked.watch,
         kind: asked.kind,
         name: walk.name().to_string(),
+        pictured: target.is_some(),
     };
     output
         .bytes
@@ -139,7 +167,8 @@ fn run(arguments: &Arguments, output: &mut Output) -> Result<Status, Instead> {
     Ok(match ended {
         Ok(()) => {
             let found = teller.end(output, walk.damages());
-            written(output.flush(), status.max(found))
+            let paged = paged(&mut teller, target, walk.damages());
+            written(output.flush(), status.max(found).max(paged))
         }
         // whoever read it has gone: what came behind was not looked at
         Err(Ended::Unwritten(unwritten)) => {
@@ -154,6 +183,21 @@ fn run(arguments: &Arguments, output: &mut Output) -> Result<Status, Instead> {
             Status::Failed
         }
     })
+}
+
+/// Writes the page, where one is wanted.
+fn paged(teller: &mut Teller, target: Option<Target>, damages: u64) -> Status {
+    let written = match (teller.page(damages), target) {
+        (Some(page), Some(target)) => target.write(&page),
+        _ => Ok(()),
+    };
+    match written {
+        Ok(()) => Status::Done,
+        Err(words) => {
+            complain(format_args!("{words}"));
+            Status::Failed
+        }
+    }
 }
 
 fn replay(
