@@ -242,6 +242,16 @@ impl Model {
         );
         text += &format!("  {none} wrote none of it\n  {unknown} went to an unknown address\n");
         text += &format!("  {} refused\n", many(self.refused, "pair"));
+        // bytes of the variable on both sides of a multiple of 64
+        let line = |byte: u64| address.wrapping_add(byte) >> 6;
+        if let (Some(before), 1..) = ((0..length).find(|k| line(*k) != line(0)), self.counts[3]) {
+            let each = if self.counts[3] == 1 { "the" } else { "each" };
+            let end = address.wrapping_add(before);
+            text += &format!(
+                "warning: the variable lies across the end of a cache line, {before} of its {length} bytes before 0x{end:016x}: \
+                 {each} store that wrote all of it tears for a reader on another core\n"
+            );
+        }
         if !self.reasons.is_empty() || self.damages > 0 {
             text += "the answer is not complete: the variable may have been written where nobody can tell\n";
         }

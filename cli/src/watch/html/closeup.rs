@@ -247,7 +247,10 @@ fn left_out(n: u64) -> String {
 fn place(touch: &Touch) -> String {
     match touch.rip {
         None => format!("record {}", touch.record),
-        Some(rip) => format!("record {}, before <code>{rip:#x}</code>,", touch.record),
+        Some(rip) => {
+            let record = touch.record;
+            format!("record {record} (next instruction at <code>{rip:#x}</code>)")
+        }
     }
 }
 

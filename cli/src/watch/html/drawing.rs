@@ -69,6 +69,8 @@ fn put_lane(out: &mut Vec<u8>, timeline: &Timeline, lane: Lane, name: &str, clas
     let highest = highest.max().unwrap_or(0);
     let used = timeline.columns.len() as f64;
     let wide = (used / THIN).min(1.0) * 0.9;
+    // where there are many, a mark begins with its column: the page is shorter so
+    let aside = if used < THIN { (1.0 - wide) / 2.0 } else { 0.0 };
     let below = top + HIGH;
     put!(
         out,
@@ -93,8 +95,11 @@ fn put_lane(out: &mut Vec<u8>, timeline: &Timeline, lane: Lane, name: &str, clas
         let count = count(column, lane);
         if count > 0 {
             let high = LOW + (HIGH - LOW) * (count as f64 / highest as f64);
-            let from = k as f64 + (1.0 - wide) / 2.0;
-            put!(out, "M{from:.2} {HIGH:.0}v-{high:.0}h{wide:.2}v{high:.0}z");
+            let from = k as f64 + aside;
+            match used < THIN {
+                true => put!(out, "M{from:.2} {HIGH:.0}v-{high:.0}h{wide:.2}v{high:.0}z"),
+                false => put!(out, "M{from:.0} {HIGH:.0}v-{high:.0}h{wide:.1}v{high:.0}z"),
+            }
         }
     }
     put!(out, "\"/></svg>\n");
@@ -104,23 +109,25 @@ fn put_lane(out: &mut Vec<u8>, timeline: &Timeline, lane: Lane, name: &str, clas
 fn put_numbers(out: &mut Vec<u8>, timeline: &Timeline, records: u64, y: f64) {
     let used = timeline.columns.len() as u64;
     let mut before = None;
+    let last = used.saturating_sub(1);
     for k in 0..NUMBERS {
-        let last = used.saturating_sub(1);
         let parts = NUMBERS.saturating_sub(1);
-        let column = last
-            .saturating_mul(k)
-            .checked_div(parts)
-            .filter(|column| before != Some(*column));
-        if let Some(column) = column {
-            before = Some(column);
-            let record = column.saturating_mul(timeline.records_each);
-            let record = record.min(records.saturating_sub(1));
-            let x = LEFT + LONG * (column as f64 + 0.5) / used as f64;
-            put!(
-                out,
-                "<text class=\"s\" x=\"{x:.0}\" y=\"{y:.0}\" text-anchor=\"middle\">{record}</text>"
-            );
+        let column = last.saturating_mul(k).checked_div(parts).unwrap_or(0);
+        if before == Some(column) {
+            continue;
         }
+        before = Some(column);
+        let record = column.saturating_mul(timeline.records_each);
+        let x = LEFT + LONG * (column as f64 + 0.5) / used as f64;
+        // the last record ends where the picture does
+        let (record, x, anchor) = match column == last && last >= NUMBERS {
+            true => (records.saturating_sub(1), LEFT + LONG, "end"),
+            false => (record, x, "middle"),
+        };
+        put!(
+            out,
+            "<text class=\"s\" x=\"{x:.0}\" y=\"{y:.0}\" text-anchor=\"{anchor}\">{record}</text>"
+        );
     }
     put!(
         out,

@@ -169,6 +169,12 @@ impl Page<'_> {
         put!(out, "<div class=\"wide\">");
         tables::put_sites(out, readers, Whose::Readers, self.watch.length());
         put!(out, "</div>\n");
+        if readers.all.iter().any(|site| !site.whole) {
+            put!(
+                out,
+                "<p>Where a reader takes it in parts, a store in between tears it for that reader.</p>\n"
+            );
+        }
     }
 
     fn put_hidden(&self, out: &mut Vec<u8>) {
@@ -193,4 +199,86 @@ fn shortened(name: &str) -> String {
         first.push('…');
     }
     escaped(&first)
+}
+
+#[cfg(test)]
+mod tests {
+    use super::super::moment::{Moment, Touch};
+    use super::super::reasons::Why;
+    use super::*;
+    use machhurel::{Refusal, Tally};
+
+    /// No page is longer.
+    const LIMIT: usize = 100_000;
+
+    fn touch(record: u64, bytes: u8, rip: u64) -> Touch {
+        Touch {
+            record,
+            opcode: u16::MAX,
+            rip: Some(u64::MAX - rip),
+            address: u64::MAX,
+            size: 64,
+            bytes,
+        }
+    }
+
+    /// Every row, column and close-up is used up, and every number is as long as it can be.
+    #[test]
+    fn the_longest_page() {
+        let mut watch = Watch::new(u64::MAX - 3, 8).unwrap();
+        assert!(watch.step(&[], &[]).is_ok());
+        let mut picture = Picture::new(&watch);
+        let mut reasons = Reasons::new();
+        let hidden = |opcode: u16| Why::Refused(Refusal::Size.of_opcode(u16::MAX - opcode));
+        let end = (timeline::COLUMNS as u64) << 55;
+        for k in 0..4_000_u64 {
+            let record = end / 4_000 * k;
+            let byte = 1_u8 << (k % 7 + u64::from(k % 5 == 4)) % 8;
+            // single bytes, with reads and refused records in between: changes of many steps
+            picture.add(&Moment::Part(touch(record, byte, k)));
+            picture.add(&Moment::Hidden(record, hidden(k as u16 % 40)));
+            reasons.add(record, hidden(k as u16 % 40));
+            reasons.add(record, Why::Unknown);
+            if k >= 20 {
+                picture.add(&Moment::Read(touch(record, u8::MAX, k)));
+            }
+            if k % 10 == 9 {
+                picture.add(&Moment::Whole(touch(record, u8::MAX, k)));
+            }
+            picture.add(&Moment::ReadSomewhere);
+        }
+        picture.end(end);
+        let most = u64::MAX / 2;
+        let answer = Answer {
+            from: 0,
+            pairs: end,
+            tally: Tally {
+                unknown: most,
+                none: most,
+                part: most,
+                whole: most,
+            },
+            refused: most,
+            first_part: Some(u64::MAX),
+            last_whole: Some(u64::MAX),
+        };
+        let page = Page {
+            name: &"<".repeat(5_000),
+            watch: &watch,
+            answer: &answer,
+            reasons: &reasons,
+            damages: u64::MAX,
+            picture: &picture,
+        };
+        let bytes = page.bytes();
+        let text = String::from_utf8(bytes).unwrap();
+        let count = |words: &str| text.matches(words).count();
+        assert_eq!(count("<h3>"), 5, "close-ups");
+        assert_eq!(count("from further places"), 2);
+        let columns = count("h0.9v");
+        assert!(columns > 4 * timeline::COLUMNS - 4, "columns: {columns}");
+        assert!(count("<tr>") > 2 * 24 + 16 + 16 + 33, "{}", count("<tr>"));
+        assert!(text.len() < LIMIT, "{}", text.len());
+        assert!(text.len() > LIMIT / 4 * 3, "{}", text.len());
+    }
 }

@@ -48,16 +48,16 @@ pub(super) fn first(watch: &Watch, answer: &Answer, picture: &Picture, damages: 
 
 const UNSEEN: &str = "for the variable may have been written where nobody can tell";
 
-/// ` (bytes 0 to 3 once, bytes 4 to 7 once)`; nothing where there is none.
+/// ` (once bytes 0 to 3, once bytes 4 to 7)`; nothing where there is none.
 fn parts(picture: &Picture) -> String {
     let all = picture.parts();
     let named = all.iter().take(PARTS);
     let mut words: Vec<String> = named
-        .map(|(touched, count)| format!("{} {}", bytes(*touched), times(*count)))
+        .map(|(touched, count)| format!("{} {}", times(*count), bytes(*touched)))
         .collect();
     let others: u64 = all.iter().skip(PARTS).map(|(_, count)| *count).sum();
     if others > 0 {
-        words.push(format!("other bytes {}", times(others)));
+        words.push(format!("{} other bytes", times(others)));
     }
     match words.as_slice() {
         [] => String::new(),

@@ -75,13 +75,13 @@ pub(super) fn put_sites(out: &mut Vec<u8>, sites: &Sites, whose: Whose, length: 
         "Opcode",
         "Memory",
         "Bytes of the variable",
-        "It is",
+        "Part or whole",
         what,
         "Records",
     ];
     begin(out, caption, &columns);
     for site in &sites.all {
-        put_site(out, site, length);
+        put_site(out, site, whose, length);
     }
     if sites.others > 0 {
         let others = grouped(sites.others);
@@ -93,7 +93,7 @@ pub(super) fn put_sites(out: &mut Vec<u8>, sites: &Sites, whose: Whose, length: 
     end(out);
 }
 
-fn put_site(out: &mut Vec<u8>, site: &Site, length: u64) {
+fn put_site(out: &mut Vec<u8>, site: &Site, whose: Whose, length: u64) {
     let first = &site.first;
     let rip = match first.rip {
         Some(rip) => format!("<code>{rip:#x}</code>"),
@@ -103,9 +103,11 @@ fn put_site(out: &mut Vec<u8>, site: &Site, length: u64) {
         Some(name) => format!("{}, {name}", first.opcode),
         None => first.opcode.to_string(),
     };
-    let (class, verdict) = match site.whole {
-        true => ("good", "whole"),
-        false => ("bad", "part"),
+    let (class, verdict) = match (whose, site.whole) {
+        (Whose::Writers, true) => ("good", "whole"),
+        (Whose::Writers, false) => ("bad", "part"),
+        (Whose::Readers, true) => ("", "whole"),
+        (Whose::Readers, false) => ("", "part"),
     };
     put!(out, "<tr><td>{rip}</td><td>{opcode}</td>");
     put!(

@@ -32,6 +32,8 @@ impl Target {
             if is_source(source, &about) {
                 return Err(failed("it is the trace itself"));
             }
+        } else if typed.is_empty() {
+            return Err(failed("it has no name"));
         } else if typed.as_bytes().ends_with(b"/") {
             return Err(failed("it names a folder"));
         }
