@@ -354,6 +354,30 @@ fn stores_around_two_to_the_64_against_the_model() {
 }
 
 #[test]
+fn a_variable_across_the_end_of_a_cache_line_is_warned_of_in_each_format() {
+    let trace = [&RegisterFile::new()[..], &store(Some(0x103C), 8)].concat();
+    let words = "the variable lies across the end of a cache line, 4 of its 8 bytes before 0x0000000000001040: \
+                 the store that wrote all of it tears for a reader on another core";
+    for (format, line) in [
+        ("text", format!("warning: {words}")),
+        (
+            "csv",
+            format!("standard input,warning,,,,0x0000000000001040,,,1,,,,\"{words}\""),
+        ),
+        (
+            "json",
+            format!("{{\"trace\":\"standard input\",\"what\":\"warning\",\"address\":\"0x0000000000001040\",\"count\":1,\"reason\":\"{words}\"}}"),
+        ),
+    ] {
+        let ran = pipe(&["watch", "-", "0x103c", "8", "--format", format], &trace);
+        assert_eq!(ran.status, Some(0));
+        assert!(ran.output.lines().any(|each| each == line), "{}", ran.output);
+        let beside = pipe(&["watch", "-", "0x103c", "4", "--format", format], &trace);
+        assert!(!beside.output.contains("warning"), "{}", beside.output);
+    }
+}
+
+#[test]
 fn many_reasons_are_told_in_few_lines() {
     let mut trace = RegisterFile::new().to_vec();
     for k in 0..3_000_u16 {
