@@ -368,7 +368,7 @@ fn a_long_trace_gives_a_short_page_whatever_the_jobs() {
         let made = fs::read_to_string(place.join("page.html")).unwrap();
         is_well_formed(&made);
         agrees(&made, &ran.output);
-        assert!(made.contains("Each column counts 4,096 records"));
+        assert!(made.contains("Each column stands for 4,096 records"));
         pages.push(made.replace("standard input", "long.trace"));
     }
     assert!(pages[0] == pages[1]);
@@ -430,6 +430,16 @@ fn a_file_that_cannot_be_written() {
         assert_eq!(fs::read(place.join("torn.trace")).unwrap(), torn());
     }
     assert!(Path::new("/dev/null").exists());
+    let trace = fs::File::open(place.join("torn.trace")).unwrap();
+    let mut command = command(&["watch", "-", "0x1008", "8", "--html", "torn.trace"]);
+    let ran: Ran = command
+        .current_dir(&place)
+        .stdin(trace)
+        .output()
+        .unwrap()
+        .into();
+    assert_eq!(ran.status, Some(1));
+    assert!(ran.errors.ends_with("it is the trace itself\n"));
     fs::remove_dir_all(&place).unwrap();
 }
 

@@ -108,6 +108,12 @@ impl Asked {
             html: arguments.last_typed(&HTML).map(OsString::from),
         })
     }
+
+    /// Where the page goes, if one is wanted; or why it cannot go there.
+    fn target(&self) -> Result<Option<Target>, String> {
+        let html = self.html.as_ref();
+        html.map(|name| Target::of(name, &self.source)).transpose()
+    }
 }
 
 /// Why a replay ended before the trace did.
@@ -131,16 +137,9 @@ impl From<Lost> for Ended {
 
 fn run(arguments: &Arguments, output: &mut Output) -> Result<Status, Instead> {
     let asked = Asked::of(arguments)?;
-    let target = asked
-        .html
-        .as_ref()
-        .map(|name| Target::of(name, &asked.source));
-    let target = match target.transpose() {
+    let target = match asked.target() {
         Ok(target) => target,
-        Err(words) => {
-            complain(format_args!("{words}"));
-            return Ok(Status::Failed);
-        }
+        Err(words) => return Ok(failed(&words)),
     };
     output.outlives_reader = target.is_some();
     let mut walk = match Walk::open(&asked.source, true) {
@@ -157,47 +156,36 @@ fn run(arguments: &Arguments, output: &mut Output) -> Result<Status, Instead> {
         .bytes
         .extend_from_slice(rows::header(asked.kind).as_bytes());
     let mut teller = Teller::new(look.clone());
-    let ended = replay(
-        &mut walk,
-        &mut Jobs::new(look, asked.jobs),
-        &mut teller,
-        output,
-    );
+    let mut jobs = Jobs::new(look, asked.jobs);
+    let ended = replay(&mut walk, &mut jobs, &mut teller, output);
     let status = walk.status();
     Ok(match ended {
         Ok(()) => {
             let found = teller.end(output, walk.damages());
-            let paged = paged(&mut teller, target, walk.damages());
-            written(output.flush(), status.max(found).max(paged))
+            let page = put_page(&mut teller, target, walk.damages());
+            written(output.flush(), status.max(found).max(page))
         }
         // whoever read it has gone: what came behind was not looked at
         Err(Ended::Unwritten(unwritten)) => {
             let seen = status.max(teller.status()).max(Status::Unsure);
             written(Err(unwritten), seen)
         }
-        Err(Ended::Lost) => {
-            complain(format_args!(
-                "{}: not every record was looked at",
-                walk.name()
-            ));
-            Status::Failed
-        }
+        Err(Ended::Lost) => failed(&format!("{}: not every record was looked at", walk.name())),
     })
 }
 
 /// Writes the page, where one is wanted.
-fn paged(teller: &mut Teller, target: Option<Target>, damages: u64) -> Status {
-    let written = match (teller.page(damages), target) {
+fn put_page(teller: &mut Teller, target: Option<Target>, damages: u64) -> Status {
+    let put = match (teller.page(damages), target) {
         (Some(page), Some(target)) => target.write(&page),
         _ => Ok(()),
     };
-    match written {
-        Ok(()) => Status::Done,
-        Err(words) => {
-            complain(format_args!("{words}"));
-            Status::Failed
-        }
-    }
+    put.map_or_else(|words| failed(&words), |()| Status::Done)
+}
+
+fn failed(words: &str) -> Status {
+    complain(format_args!("{words}"));
+    Status::Failed
 }
 
 fn replay(

@@ -1,6 +1,6 @@
 //! The timeline as a picture.
 use super::picture::Picture;
-use super::timeline::{Column, Lane, Timeline};
+use super::timeline::{Column, Lane, Timeline, LANES};
 use super::words::{grouped, many};
 use crate::format::put;
 
@@ -16,7 +16,8 @@ const THIN: f64 = 60.0;
 /// So many numbers stand below.
 const NUMBERS: u64 = 5;
 
-const LANES: [(Lane, &str, &str); 4] = [
+/// What is shown, from above: its name, and the class of its marks.
+const ROWS: [(Lane, &str, &str); LANES] = [
     (Lane::Part, "part writes", "p"),
     (Lane::Whole, "whole writes", "w"),
     (Lane::Read, "reads", "r"),
@@ -32,8 +33,8 @@ pub(super) fn scale(timeline: &Timeline) -> String {
     match timeline.records_each {
         1 => "Each column is one record.".to_string(),
         n => format!(
-            "Each column counts {} records, and a mark is as high as its count against the highest of its row: \
-             nothing is left out, but the order within a column cannot be seen.",
+            "Each column stands for {} records, and its mark is the higher the more it counts: nothing is left out, but the order within a \
+             column cannot be seen.",
             grouped(n)
         ),
     }
@@ -45,7 +46,7 @@ pub(super) fn put(out: &mut Vec<u8>, picture: &Picture, records: u64) {
         let counts = timeline.columns.iter().map(|column| count(column, lane));
         counts.fold(0, u64::saturating_add)
     };
-    let height = PITCH * LANES.len() as f64 + 22.0;
+    let height = PITCH * ROWS.len() as f64 + 22.0;
     put!(
         out,
         "<svg viewBox=\"0 0 1040 {height:.0}\" role=\"img\" aria-labelledby=\"tt td\"><title id=\"tt\">Writes and reads of the variable over \
@@ -57,7 +58,7 @@ pub(super) fn put(out: &mut Vec<u8>, picture: &Picture, records: u64) {
         many(total(Lane::Hidden), "time") + " at which a write could be hidden",
         scale(timeline)
     );
-    for (k, (lane, name, class)) in LANES.into_iter().enumerate() {
+    for (k, (lane, name, class)) in ROWS.into_iter().enumerate() {
         put_lane(out, timeline, lane, name, class, PITCH * k as f64 + 8.0);
     }
     put_numbers(out, timeline, records, height - 6.0);
@@ -68,9 +69,6 @@ fn put_lane(out: &mut Vec<u8>, timeline: &Timeline, lane: Lane, name: &str, clas
     let highest = timeline.columns.iter().map(|column| count(column, lane));
     let highest = highest.max().unwrap_or(0);
     let used = timeline.columns.len() as f64;
-    let wide = (used / THIN).min(1.0) * 0.9;
-    // where there are many, a mark begins with its column: the page is shorter so
-    let aside = if used < THIN { (1.0 - wide) / 2.0 } else { 0.0 };
     let below = top + HIGH;
     put!(
         out,
@@ -91,18 +89,30 @@ fn put_lane(out: &mut Vec<u8>, timeline: &Timeline, lane: Lane, name: &str, clas
         "<svg x=\"{LEFT:.0}\" y=\"{top:.0}\" width=\"{LONG:.0}\" height=\"{HIGH:.0}\" viewBox=\"0 0 {used:.0} {HIGH:.0}\" \
          preserveAspectRatio=\"none\"><path class=\"{class}\" d=\""
     );
+    put_marks(out, timeline, lane, highest);
+    put!(out, "\"/></svg>\n");
+}
+
+fn put_marks(out: &mut Vec<u8>, timeline: &Timeline, lane: Lane, highest: u64) {
+    let used = timeline.columns.len() as f64;
+    let wide = (used / THIN).min(1.0) * 0.9;
     for (k, column) in timeline.columns.iter().enumerate() {
         let count = count(column, lane);
-        if count > 0 {
-            let high = LOW + (HIGH - LOW) * (count as f64 / highest as f64);
-            let from = k as f64 + aside;
-            match used < THIN {
-                true => put!(out, "M{from:.2} {HIGH:.0}v-{high:.0}h{wide:.2}v{high:.0}z"),
-                false => put!(out, "M{from:.0} {HIGH:.0}v-{high:.0}h{wide:.1}v{high:.0}z"),
-            }
+        if count == 0 {
+            continue;
+        }
+        let high = LOW + (HIGH - LOW) * (count as f64 / highest as f64);
+        let from = k as f64;
+        // where there are many, a mark begins with its column, and the page is shorter
+        match used < THIN {
+            true => put!(
+                out,
+                "M{:.2} {HIGH:.0}v-{high:.0}h{wide:.2}v{high:.0}z",
+                from + (1.0 - wide) / 2.0
+            ),
+            false => put!(out, "M{from:.0} {HIGH:.0}v-{high:.0}h{wide:.1}v{high:.0}z"),
         }
     }
-    put!(out, "\"/></svg>\n");
 }
 
 /// Numbers of records below.
@@ -120,7 +130,7 @@ fn put_numbers(out: &mut Vec<u8>, timeline: &Timeline, records: u64, y: f64) {
         let record = column.saturating_mul(timeline.records_each);
         let x = LEFT + LONG * (column as f64 + 0.5) / used as f64;
         // the last record ends where the picture does
-        let (record, x, anchor) = match column == last && last >= NUMBERS {
+        let (record, x, anchor) = match column == last && used as f64 >= THIN {
             true => (records.saturating_sub(1), LEFT + LONG, "end"),
             false => (record, x, "middle"),
         };

@@ -65,12 +65,14 @@ impl Target {
 }
 
 fn is_source(source: &Source, about: &fs::Metadata) -> bool {
-    match source {
-        Source::File(name) => fs::metadata(name).map_or(false, |trace| {
-            (trace.dev(), trace.ino()) == (about.dev(), about.ino())
-        }),
-        Source::Input | Source::Sample => false,
-    }
+    let name = match source {
+        Source::File(name) => name.as_os_str(),
+        Source::Input => OsStr::new("/dev/stdin"),
+        Source::Sample => return false,
+    };
+    fs::metadata(name).map_or(false, |trace| {
+        (trace.dev(), trace.ino()) == (about.dev(), about.ino())
+    })
 }
 
 /// A new file in the folder of this one.
