@@ -312,6 +312,90 @@ fn the_timeline_counts_every_access_once() {
     }
 }
 
+/// The cells of a table's rows, without tags.
+fn rows(page: &str, caption: &str) -> Vec<Vec<String>> {
+    let from = page.find(&format!("<caption>{caption}")).unwrap();
+    let table = &page[from..from + page[from..].find("</table>").unwrap()];
+    let cells = |row: &str| {
+        let cells = row.split("</td>").filter(|cell| cell.contains("<td"));
+        let plain = |cell: &str| {
+            tags(&format!("{cell}<b>"))
+                .iter()
+                .map(|tag| tag.0)
+                .collect()
+        };
+        cells.map(plain).collect()
+    };
+    let rows = table.lines().filter(|line| line.starts_with("<tr><td"));
+    rows.map(cells).collect()
+}
+
+/// Stores of a variable by rip, address and size; and which comes after which with how many reads in between: from the logs alone.
+#[test]
+fn writers_and_pauses_against_a_naive_count() {
+    let mut random = Random(4);
+    let rip = |n: u64| RegisterFile::new().with(Known::Rip, 0x40_1000 + n);
+    let variable = 0x1008..0x1010_u64;
+    let mut trace = rip(0).to_vec();
+    let mut writers: Vec<(String, u64)> = Vec::new();
+    let mut pauses: Vec<(String, u64, u64)> = Vec::new();
+    let (mut now, mut last, mut reads) = (0, None, 0);
+    for _ in 0..3_000 {
+        if random.below(2) == 0 {
+            now = random.below(3);
+            trace.extend_from_slice(&rip(now)[..]);
+        }
+        let (address, size) =
+            [(0x1008, 4), (0x100C, 4), (0x1008, 8), (0x1010, 8)][random.below(4) as usize];
+        let is_read = random.below(2) == 0;
+        let what = [Access::Write, Access::Read][usize::from(is_read)];
+        trace.extend_from_slice(&access(what, Some(address), size)[..]);
+        if !variable.contains(&address) {
+            continue;
+        }
+        if is_read {
+            reads += 1;
+            continue;
+        }
+        let key = format!("{:#x} 0x{address:016x}, {size} bytes", 0x40_1000 + now);
+        match writers.iter_mut().find(|(each, _)| *each == key) {
+            Some((_, count)) => *count += 1,
+            None => writers.push((key, 1)),
+        }
+        let bytes = format!(
+            "bytes {} to {}",
+            address - 0x1008,
+            address - 0x1008 + u64::from(size) - 1
+        );
+        let after = last.unwrap_or_else(|| "none: the trace begins".to_string());
+        let key = format!("{after}; {bytes}");
+        match pauses.iter_mut().find(|(each, _, _)| *each == key) {
+            Some((_, count, read)) => (*count, *read) = (*count + 1, *read + reads),
+            // nothing is told of the beginning where nothing was read
+            None if after.starts_with("none") && reads == 0 => {}
+            None => pauses.push((key, 1, reads)),
+        }
+        (last, reads) = (Some(bytes), 0);
+    }
+    if reads > 0 {
+        pauses.push((format!("{}; none: the trace ends", last.unwrap()), 1, reads));
+    }
+    let (made, _) = page(&trace, "0x1008", "8", &[]);
+    let told: Vec<(String, u64)> = rows(&made, "Stores that wrote the variable")
+        .iter()
+        .map(|row| (format!("{} {}", row[0], row[2]), row[5].parse().unwrap()))
+        .collect();
+    assert_eq!(told, writers);
+    let told: Vec<(String, u64, u64)> = rows(&made, "Store after store")
+        .iter()
+        .map(|row| {
+            let number = |k: usize| row[k].replace(',', "").parse().unwrap();
+            (format!("{}; {}", row[0], row[1]), number(2), number(4))
+        })
+        .collect();
+    assert_eq!(told, pauses);
+}
+
 #[test]
 fn a_change_is_told_step_by_step() {
     let store = |address, size| access(Access::Write, Some(address), size);
