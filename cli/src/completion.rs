@@ -29,12 +29,32 @@ fn general() -> impl Iterator<Item = (&'static str, &'static str, &'static str)>
     })
 }
 
+/// How it begins: the list of commands follows.
+const ZSH: &str = "\
+#compdef machhurel
+# completion of the command machhurel for zsh
+_machhurel() {
+    local -a commands general
+    commands=(
+";
+
+/// Behind the lists: the word behind `machhurel` is one of them, and the others are those of a command.
+const ZSH_BEHIND: &str = "    )
+    if ((CURRENT == 2)); then
+        _describe -t commands command commands
+        _describe -o option general
+        return
+    fi
+    local command=$words[2]
+    shift words
+    ((CURRENT--))
+    case $command in
+";
+
 /// The completion of zsh.
 pub fn zsh() -> String {
     let text = |text: &str| quoted(text, &[':', '[', ']', '\\'], "'\\''");
-    let mut script = String::from(
-        "#compdef machhurel\n# completion of the command machhurel for zsh\n_machhurel() {\n    local -a commands general\n    commands=(\n",
-    );
+    let mut script = String::from(ZSH);
     for command in COMMANDS {
         let words = text(command.purpose);
         script.push_str(&format!("        '{}:{words}'\n", command.name));
@@ -43,9 +63,7 @@ pub fn zsh() -> String {
     for (_, long, words) in general() {
         script.push_str(&format!("        '{long}:{}'\n", text(words)));
     }
-    script.push_str(
-        "    )\n    if ((CURRENT == 2)); then\n        _describe -t commands command commands\n        _describe -o option general\n        return\n    fi\n    local command=$words[2]\n    shift words\n    ((CURRENT--))\n    case $command in\n",
-    );
+    script.push_str(ZSH_BEHIND);
     for command in COMMANDS {
         script.push_str(&format!("    {}) _arguments", command.name));
         for choice in command.choices {

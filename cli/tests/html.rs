@@ -53,7 +53,8 @@ fn text(page: &str) -> String {
         .replace("&amp;", "&")
 }
 
-/// Every tag is closed in its turn, every attribute quoted, every name given once and every reference met; no script, nothing from outside.
+/// Every tag is closed in its turn, every attribute quoted, every name given once and every reference met; no script,
+/// nothing from outside.
 fn is_well_formed(page: &str) {
     assert!(page.starts_with("<!doctype html>\n<html lang=\"en\">"));
     assert!(page.len() < LIMIT, "{}", page.len());
@@ -183,7 +184,8 @@ fn access(access: Access, address: Option<u64>, size: u8) -> Record {
     .unwrap()
 }
 
-/// Under register files with a rip of few: stores of parts and of all of 0x103c, reads, unknown addresses and refused records.
+/// Under register files with a rip of few: stores of parts and of all of 0x103c, reads, unknown addresses and refused
+/// records.
 fn mixed(random: &mut Random, records: u64) -> Vec<u8> {
     let mut trace = RegisterFile::new().to_vec();
     for _ in 0..records {
@@ -206,7 +208,8 @@ fn mixed(random: &mut Random, records: u64) -> Vec<u8> {
     trace
 }
 
-/// How many reads touched the bytes of a variable, from the logs and sets of bytes alone; and how many went nobody knows where.
+/// How many reads touched the bytes of a variable, from the logs and sets of bytes alone; and how many went nobody knows
+/// where.
 fn reads(trace: &[u8], address: u64, length: u64) -> (u64, u64) {
     let (mut touched, mut unknown, mut file) = (0, 0, Vec::new());
     for item in Items::new(trace).flatten() {
@@ -330,7 +333,8 @@ fn rows(page: &str, caption: &str) -> Vec<Vec<String>> {
     rows.map(cells).collect()
 }
 
-/// Stores of a variable by rip, address and size; and which comes after which with how many reads in between: from the logs alone.
+/// Stores of a variable by rip, address and size; and which comes after which with how many reads in between: from what
+/// the trace was made of.
 #[test]
 fn writers_and_pauses_against_a_naive_count() {
     let mut random = Random(4);

@@ -1,4 +1,4 @@
-//! What a watch saw as a page: one file of HTML without script or outside reference, of bounded length whatever the trace's.
+//! What a watch saw as a page: one file of HTML without script or outside reference, no longer for a longer trace.
 mod changes;
 mod closeup;
 mod drawing;

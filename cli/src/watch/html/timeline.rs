@@ -1,5 +1,5 @@
-//! When: accesses over the records of a trace, in a fixed number of columns. A column stands for one record where they are few, and for
-//! twice as many each time the columns are used up: nothing is left out, since each column counts.
+//! When: accesses over the records of a trace, in a fixed number of columns. A column stands for one record where they
+//! are few, and for twice as many each time the columns are used up: nothing is left out, since each column counts.
 
 /// So many columns at most.
 pub(super) const COLUMNS: usize = 320;
