@@ -1,0 +1,5 @@
+pub mod Sums
+pub mod Walks
+pub mod Visited
+pub mod Tables
+pub mod Proved
