@@ -1,12 +1,13 @@
 -- The count of an answer is at most the bytes that its call can write, so that it fits its bits. Assumes nothing.
 use Prim.Native.Nat.{ℕ, _^_, _<_}
 use native.Mathlib.Omega.{arith}
-use mathlib.Core.Path.{_≡_, ap}
-use mathlib.Core.Bool.{Bool}
+use mathlib.Core.Path.{_≡_, refl, ap}
+use mathlib.Core.Bool.{Bool, not}
 use mathlib.Core.List.{List}
 use lib.ListN.{length}
 use lib.Dec.{eqb}
 use Rattle.laws.proofs.Choice.{either}
+use Rattle.registers.specs.Files.{fileOf, isFile}
 use Rattle.registers.specs.declared.RegisterFile.{RegisterFile}
 use Rattle.record.specs.Records.{recordOf}
 use Rattle.definition.specs.Logs.{bytesOf}
@@ -15,6 +16,7 @@ use Rattle.definition.specs.Listings.{listingOf, listingRefusal, listingCall}
 use Rattle.definition.specs.declared.Answer.{Answer}
 use Rattle.definition.proofs.Bounds.{log-bytes}
 use Rattle.definition.proofs.ListingBound.{listing-bytes}
+use Rattle.session.specs.Sessions.{Held, appended}
 
 abbrev Fits : Answer × List ℕ → Type 0
 Fits o = countOf (o .0) < 2 ^ 32
@@ -37,3 +39,8 @@ unfolding visitBy logOf
 visit-fits bad b f buffer start e =
     rw (ap (λ (o : Answer × List ℕ). o .0) e)
     (outcome-fits (refusalOf bad b f buffer start) (recordOf b .opcode) (bytesOf (logOf b f)) buffer start (omega (arith, log-bytes f (fixedRecord b))))
+
+pub append-fits : (b f : List ℕ) (h : Held) {a : Answer} {after : Held} → (a, after) ≡ appended b f h → countOf a < 2 ^ 32
+unfolding appended
+append-fits b f h e =
+    rw (ap (λ (o : Answer × Held). o .0) e) (visit-fits (not (isFile f)) b (fileOf f) (h .1) (h .0 .used) refl)

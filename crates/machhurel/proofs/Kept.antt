@@ -9,8 +9,12 @@ use lib.Dec.{eqb}
 use borrow.Author.Tests.{ne-eqb, eqb-true}
 use Rattle.laws.proofs.Choice.{either}
 use Rattle.definition.specs.Readings.{readAt}
+use Rattle.definition.specs.declared.Answer.{Answer}
 use Rattle.definition.specs.declared.Reading.{Reading}
 use Rattle.definition.specs.declared.Reading.the-variants.{Found, Bad, Finished}
+use Rattle.session.specs.Sessions.{sessionIn, appended}
+use Rattle.session.specs.Sessions as sessions
+use Rattle.session.specs.declared.appends.Session.{Session}
 use Rattle.watching.specs.Verdicts.{isLength, namedBy, nameAt}
 use Rattle.watching.specs.Tallies.{total}
 use Rattle.watching.specs.Traces.{Pair, isTaking, untaken, taken, stepOf}
@@ -23,7 +27,8 @@ use Rattle.watching.specs.declared.watch.When.the-variants.{Never, At}
 use Rattle.watching.specs.declared.watch.Watch.{Watch}
 use Rattle.watching.specs.declared.watch.Stepped.{Stepped}
 use Rattle.watching.proofs.Steps.{pair-few}
-use Rattle.machhurel.specs.Words.{never, whenIn, whenWord, watchIn, wordsOf}
+use Rattle.machhurel.specs.Answers.{answerBits}
+use Rattle.machhurel.specs.Words.{never, whenIn, whenWord, watchIn, wordsOf, heldWords}
 use Rattle.machhurel.proofs.Lengths.{leads-on}
 
 -- a step's counts fit in bytes
@@ -72,3 +77,10 @@ when-round (At n) s = rw (ne-eqb n never (λ e. omega (arith, e)))
 pub watch-kept : (w : Watch) → Small (w .first) → Small (w .last) → watchIn (wordsOf w) ≡ w
 unfolding wordsOf watchIn
 watch-kept w s t = rw (when-round (w .first) s, when-round (w .last) t)
+
+-- an append, from the words of a session to words
+pub append-words :
+    (b f p words : List ℕ) (s : Session) {r : ℕ} {a : Answer} {t : Session} {w log : List ℕ}
+    → s ≡ sessionIn words → (a, (t, log)) ≡ appended b f (s, p) → w ≡ sessions.wordsOf t → r ≡ answerBits a
+    → (r, (w, log)) ≡ heldWords (appended b f (sessionIn words, p))
+append-words b f p words s i e v n = rw (← i, ← e, v, n)

@@ -1,16 +1,20 @@
--- A watch as the ten words that a C caller keeps: address, length, pairs taken; write events unknown, none, part, whole; refused pairs;
+-- What a C caller keeps as words. A watch is ten: address, length, pairs taken; write events unknown, none, part, whole; refused pairs;
 -- the number of the first pair with a part write and of the last with a whole one, all ones where there is none.
 use Prim.Native.Nat.{ℕ, _-_, _^_}
 use mathlib.Core.List.{List, [], _∷_}
 use mathlib.Core.Bool.{cond}
 use lib.ListN.{getD}
 use lib.Dec.{eqb}
+use Rattle.definition.specs.declared.Answer.{Answer}
+use Rattle.session.specs.Sessions.{Held}
+use Rattle.session.specs.Sessions as sessions
 use Rattle.watching.specs.Verdicts.{variable}
 use Rattle.watching.specs.declared.watch.When.{When}
 use Rattle.watching.specs.declared.watch.When.the-variants.{Never, At}
 use Rattle.watching.specs.declared.watch.Watch.{Watch}
 use Rattle.watching.specs.declared.watch.WatchAnswer.{WatchAnswer}
 use Rattle.watching.specs.declared.watch.WatchAnswer.the-variants.{Done, Refused}
+use Rattle.machhurel.specs.Answers.{answerBits}
 
 abbrev pub never : ℕ
 never = 2 ^ 64 - 1
@@ -43,3 +47,7 @@ wordsOf w =
 abbrev pub newWords : WatchAnswer → List ℕ → ℕ × List ℕ
 newWords (Done w) old = (0, wordsOf w)
 newWords (Refused k) old = (k, old)
+
+-- an append's answer in bits, the three words that are its session, and the buffer
+abbrev pub heldWords : Answer × Held → ℕ × (List ℕ × List ℕ)
+heldWords o = (answerBits (o .0), (sessions.wordsOf (o .1 .0), o .1 .1))
