@@ -1,21 +1,8 @@
 //! A log session against a second reading: after every call the log is read from its start, byte by byte, as FORMAT lays events out.
+mod common;
+
+use common::Random;
 use machhurel::*;
-
-/// A small generator with a fixed seed: xorshift.
-struct Random(u64);
-
-impl Random {
-    fn below(&mut self, n: u64) -> u64 {
-        self.0 ^= self.0 << 13;
-        self.0 ^= self.0 >> 7;
-        self.0 ^= self.0 << 17;
-        self.0 % n
-    }
-
-    fn one_of<T: Copy>(&mut self, these: &[T]) -> T {
-        these[self.below(these.len() as u64) as usize]
-    }
-}
 
 /// The events of a log and those of kinds 5 and 6, by the length that each kind has.
 fn read_whole(log: &[u8]) -> (u64, u64) {
@@ -171,7 +158,10 @@ fn any_words_get_an_answer() {
     // `used` past the end of the buffer: 7, but what comes before it in the table comes first
     for used in [9, 1 << 40, u64::MAX] {
         let words = [used, 3, 1];
-        assert_eq!(append(words, &record, &file, &mut [0; 8]), (needs_five, words));
+        assert_eq!(
+            append(words, &record, &file, &mut [0; 8]),
+            (needs_five, words)
+        );
         assert_eq!(append(words, &record[1..], &file, &mut [0; 8]), (1, words));
         assert_eq!(append(words, &record, &file[1..], &mut [0; 8]), (3, words));
     }

@@ -2,7 +2,7 @@
 use Prim.Native.Nat.{ℕ, _+_, _%_, _≤_, _<_}
 use mathlib.Core.Path.{_≡_}
 use mathlib.Core.List.{List, [], _∷_}
-use lib.ListN.{length, getD, take}
+use lib.ListN.{length, take}
 use Rattle.registers.specs.Files.{fileOf}
 use Rattle.definition.specs.Addresses.{word}
 use Rattle.definition.specs.Readings.{Reads}
@@ -34,15 +34,8 @@ unfoldable pub countsOf : List Event → Counts
 countsOf [] = noCounts
 countsOf (e ∷ es) = counting e (countsOf es)
 
--- a session, and as the three words that a C caller keeps
 abbrev pub empty : Session
 empty = record { used = 0; events = 0; unknown = 0 }
-
-abbrev pub sessionIn : List ℕ → Session
-sessionIn l = record { used = getD l 0 0; events = getD l 1 0; unknown = getD l 2 0 }
-
-abbrev pub wordsOf : Session → List ℕ
-wordsOf s = s .used ∷ s .events ∷ s .unknown ∷ []
 
 -- n bytes more, which are these events; counts are modulo two to the 64
 unfoldable pub further : Session → ℕ → List Event → Session

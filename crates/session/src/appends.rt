@@ -5,7 +5,7 @@ ghost use mathlib.Core.Path.{_≡_};
 ghost use Prim.Native.Nat.{_+_, _≤_};
 ghost use lib.ListN.{length, take, drop};
 ghost use Rattle.event.specs.Wholes.{eventsIn, wholeOf};
-ghost use Rattle.session.specs.Sessions.{empty, sessionIn, wordsOf, further, appended};
+ghost use Rattle.session.specs.Sessions.{empty, further, appended};
 
 // How many bytes of the buffer are used, from its start on; how many events stand there; and how many of these are memory events at
 // unknown addresses.
@@ -31,23 +31,6 @@ impl Session {
             events: 0,
             unknown: 0,
         }
-    }
-
-    // Three words as a session, and back.
-    pub fn from_words(words: &[u64; 3]) -> Session
-        ensures { λ r. ⌜ r ≡ sessionIn (now (words .entry)) ⌝ }
-    {
-        Session {
-            used: words[0] as usize,
-            events: words[1],
-            unknown: words[2],
-        }
-    }
-
-    pub fn into_words(self) -> [u64; 3]
-        ensures { λ r. ⌜ r ≡ wordsOf self ⌝ }
-    {
-        [self.used as u64, self.events, self.unknown]
     }
 
     // The n bytes behind those used are used too, and their events are counted: no other byte is read.
