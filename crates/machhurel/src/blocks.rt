@@ -4,7 +4,14 @@ ghost use Rattle.block.specs.Blocks.{blockCall};
 ghost use Rattle.block.specs.Bits.{inBits};
 
 #[no_mangle]
-pub extern "C" fn machhurel_block(records: &[u8], each: usize, file: &[u8], log: &mut [u8], start: usize, answers: &mut [u8]) -> u64
+pub extern "C" fn machhurel_block(
+    records: &[u8],
+    each: usize,
+    file: &[u8],
+    log: &mut [u8],
+    start: usize,
+    answers: &mut [u8],
+) -> u64
     ensures { λ r. ⌜ (r, (now (log .exit), now (answers .exit)))
         ≡ inBits (blockCall each (now (records .entry)) (now (file .entry)) (now (log .entry)) start (now (answers .entry))) ⌝ }
 {
