@@ -1,9 +1,11 @@
 //! Visits the same records by the given Rust and by the library, in interleaved rounds, and prints medians of the processor's time.
 //!
-//! `bench [--records N] [--rounds R] [--seed S]` compares, each side by single calls, and then single calls with blocks of records;
-//! `bench --count rust|before|ours|watch|block|none --input mixed|everyday|indexed` runs one side once, for a tool that counts
-//! instructions (`watch` steps a watch over the pairs; `block` visits blocks of records, and `blocks-made` only makes them; `none`
-//! makes the input and visits nothing). `before` is there where the bench was built with MACHHUREL_BEFORE: see build.rs.
+//! `bench [--records N] [--rounds R] [--seed S]` compares, each side by single calls, and then single calls with blocks of records.
+//!
+//! `bench --count rust|before|ours|watch|append|block|none --input mixed|everyday|indexed` runs one side once, for a tool that
+//! counts instructions: `watch` steps a watch over the pairs, `append` appends them to a session, `block` visits blocks of records
+//! (and `blocks-made` only makes these), `none` makes the input and visits nothing. `before` is there where the bench was built
+//! with MACHHUREL_BEFORE: see build.rs.
 
 #[cfg(before)]
 mod before;
@@ -109,6 +111,7 @@ fn main() {
         let total = match SIDES.iter().find(|(name, _)| *name == side) {
             Some((_, visit)) => pass(input.pairs(), *visit),
             None if side == "watch" => ours::watch(&input),
+            None if side == "append" => ours::append(&input),
             None if side == "block" => blocks::of(&input).iter_mut().map(blocks::Block::visit).sum(),
             None if side == "blocks-made" => blocks::of(&input).len(),
             None => 0,
