@@ -10,7 +10,6 @@ use Rattle.laws.specs.Tests.{firstOf}
 use Rattle.laws.proofs.Outcomes.{one-outcome}
 use Rattle.registers.specs.Files.{fileOf, isFile}
 use Rattle.record.specs.Records.{isRecord, recordOf, outside}
-use Rattle.definition.specs.Addresses.{operandAddress}
 use Rattle.definition.specs.Behaviors.{complex}
 use Rattle.definition.specs.Logs.{bytesOf}
 use Rattle.definition.specs.Refusals.{nameless, sizeless, noRoom}
@@ -45,8 +44,7 @@ pub unknown-exactly : promised.UnknownExactly
 unknown-exactly f a = (unknown-to f a, unknown-from f a)
 
 pub cut-last : promised.CutLast
-unfolding operandAddress
-cut-last f x b i d = law.cut-last f (operandAddress x b i d)
+cut-last f x b i d = law.cut-last f x b i d
 
 pub log-is-short : promised.LogBytes
 log-is-short f x = log-bytes f x
