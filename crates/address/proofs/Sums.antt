@@ -3,6 +3,7 @@ use Prim.Native.Nat.{ℕ, _+_, _*_, _^_, _/_, _%_}
 use native.Mathlib.Nat.{div-one}
 use native.Mathlib.Omega.{arith}
 use mathlib.Core.Path.{_≡_, refl, ap, _∙_}
+use mathlib.Core.Bool.{false}
 use Rattle.registers.specs.Files.{after, partOf, valueOf}
 use Rattle.registers.specs.declared.RegSpec.{RegSpec}
 use Rattle.registers.specs.declared.RegisterFile.{RegisterFile}
@@ -22,7 +23,7 @@ ap-low (Known a) = ap Known (rw (div-one a))
 ap-low Unknown = refl
 
 module _ (f : RegisterFile) where
-  pub at-register : (y : RegSpec) → addressOf f (record { base = Plain y; index = Absent; offset = 0 }) ≡ valueOf f y
+  pub at-register : (y : RegSpec) → addressOf f (record { base = Plain y; index = Absent; offset = 0; cut = false }) ≡ valueOf f y
   unfolding addressOf placeOf termOf
   at-register y = by (valueOf f y) (value-word f y)
     where
@@ -30,7 +31,7 @@ module _ (f : RegisterFile) where
       by (Known a) h = ap Known (omega arith)
       by Unknown h = refl
 
-  pub at-disp : (y : RegSpec) (n : ℕ) → addressOf f (record { base = Plain y; index = Absent; offset = n }) ≡ plusOf (valueOf f y) n
+  pub at-disp : (y : RegSpec) (n : ℕ) → addressOf f (record { base = Plain y; index = Absent; offset = n; cut = false }) ≡ plusOf (valueOf f y) n
   unfolding addressOf placeOf termOf
   at-disp y n = by (valueOf f y)
     where
@@ -38,7 +39,7 @@ module _ (f : RegisterFile) where
       by (Known a) = ap Known (omega arith)
       by Unknown = refl
 
-  pub at-index : (z : RegSpec) (k : ℕ) → addressOf f (record { base = Absent; index = Scaled z k; offset = 0 }) ≡ scaledOf (valueOf f z) k
+  pub at-index : (z : RegSpec) (k : ℕ) → addressOf f (record { base = Absent; index = Scaled z k; offset = 0; cut = false }) ≡ scaledOf (valueOf f z) k
   unfolding addressOf placeOf termOf
   at-index z k = by (valueOf f z)
     where
@@ -46,7 +47,7 @@ module _ (f : RegisterFile) where
       by (Known a) = ap Known (omega arith)
       by Unknown = refl
 
-  pub at-index-disp : (z : RegSpec) (k n : ℕ) → addressOf f (record { base = Absent; index = Scaled z k; offset = n }) ≡ plusOf (scaledOf (valueOf f z) k) n
+  pub at-index-disp : (z : RegSpec) (k n : ℕ) → addressOf f (record { base = Absent; index = Scaled z k; offset = n; cut = false }) ≡ plusOf (scaledOf (valueOf f z) k) n
   unfolding addressOf placeOf termOf
   at-index-disp z k n = by (valueOf f z)
     where
@@ -54,7 +55,7 @@ module _ (f : RegisterFile) where
       by (Known a) = ap Known (omega arith)
       by Unknown = refl
 
-  pub at-both : (y z : RegSpec) (k : ℕ) → addressOf f (record { base = Plain y; index = Scaled z k; offset = 0 }) ≡ sumOf (valueOf f y) (scaledOf (valueOf f z) k)
+  pub at-both : (y z : RegSpec) (k : ℕ) → addressOf f (record { base = Plain y; index = Scaled z k; offset = 0; cut = false }) ≡ sumOf (valueOf f y) (scaledOf (valueOf f z) k)
   unfolding addressOf placeOf termOf
   at-both y z k = by (valueOf f y) (scaledOf (valueOf f z) k)
     where
@@ -63,7 +64,7 @@ module _ (f : RegisterFile) where
       by (Known a) Unknown = refl
       by Unknown v = refl
 
-  pub at-both-disp : (y z : RegSpec) (k n : ℕ) → addressOf f (record { base = Plain y; index = Scaled z k; offset = n }) ≡ plusOf (sumOf (valueOf f y) (scaledOf (valueOf f z) k)) n
+  pub at-both-disp : (y z : RegSpec) (k n : ℕ) → addressOf f (record { base = Plain y; index = Scaled z k; offset = n; cut = false }) ≡ plusOf (sumOf (valueOf f y) (scaledOf (valueOf f z) k)) n
   unfolding addressOf placeOf termOf
   at-both-disp y z k n = by (valueOf f y) (scaledOf (valueOf f z) k)
     where
@@ -72,7 +73,7 @@ module _ (f : RegisterFile) where
       by (Known a) Unknown = refl
       by Unknown v = refl
 
-  pub at-number : (n : ℕ) → addressOf f (record { base = Absent; index = Absent; offset = n }) ≡ Known ((0 + n) % word)
+  pub at-number : (n : ℕ) → addressOf f (record { base = Absent; index = Absent; offset = n; cut = false }) ≡ Known ((0 + n) % word)
   unfolding addressOf placeOf termOf
   at-number n = ap Known (omega arith)
 

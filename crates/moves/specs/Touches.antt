@@ -13,6 +13,7 @@ use Rattle.definition.specs.Steps.{maskRegisters, isLea, widened}
 use Rattle.definition.specs.Logs.{memoryEvent}
 use Rattle.definition.specs.declared.Event.{Event}
 use Rattle.definition.specs.declared.Event.the-variants.{RegisterRead, RegisterWrite}
+use Rattle.address.specs.Places.{cutOf}
 use Rattle.event.specs.Moves.{moved}
 
 -- a register: a write is widened
@@ -30,9 +31,9 @@ abbrev pub stops : Record → Way → Bool
 stops x Read = isLea x
 stops x Write = false
 
--- the access itself
+-- the access itself, by the whole sum
 unfoldable pub accessEvents : Record → Way → Value → List Event
-accessEvents x w v = cond (stops x w) [] (memoryEvent w v (x .size) ∷ [])
+accessEvents x w v = cond (stops x w) [] (memoryEvent w (cutOf x v) (x .size) ∷ [])
 
 -- one register of an address, the mask, the access
 unfoldable pub derefEvents : Record → Way → RegSpec → ℕ → Value → List Event

@@ -16,6 +16,7 @@ use Rattle.definition.specs.Refusals.{nameless, sizeless, noRoom}
 use Rattle.definition.specs.Visits.{fixedRecord, logOf, refusalOf, visitBy}
 use Rattle.definition.specs.Listings.{listingOf, listingRefusal, listingCall}
 use Rattle.definition.proofs.Bounds.{log-bytes, log-events}
+use Rattle.definition.proofs.CutLast as law
 use Rattle.definition.proofs.ListingBound.{listing-bytes}
 use Rattle.promises.specs.Promises as promised
 use Rattle.promises.proofs.Demands.{by-refines, by-agrees}
@@ -41,6 +42,9 @@ agreement-decides-under b f g p s h = by-agrees false b f g p s h
 
 pub unknown-exactly : promised.UnknownExactly
 unknown-exactly f a = (unknown-to f a, unknown-from f a)
+
+pub cut-last : promised.CutLast
+cut-last f x b i d = law.cut-last f x b i d
 
 pub log-is-short : promised.LogBytes
 log-is-short f x = log-bytes f x
@@ -103,7 +107,7 @@ bench-holds = tables.bench-holds
 
 pub beyond-holds : promised.BeyondHolds
 beyond-holds =
-    (tables.widening-holds, tables.masking-holds, tables.leas-holds, tables.ordering-holds, tables.addressing-holds, tables.malformed-holds, tables.refusing-holds)
+    (tables.widening-holds, tables.masking-holds, tables.leas-holds, tables.ordering-holds, tables.addressing-holds, tables.cutting-holds, tables.malformed-holds, tables.refusing-holds)
 
 pub answers-hold : promised.AnswersHold
 answers-hold =
