@@ -1,4 +1,4 @@
--- No log needs over 38 events or 177 bytes: one bound over what a register event and a memory event cost. It holds for every
+-- No log needs over mostEvents events or mostBytes bytes: one bound over what a register event and a memory event cost. It holds for every
 -- record, refused or not, and every file. Assumes nothing.
 use Prim.Native.Nat.{ℕ, _+_, _*_, _≤_, zero-le}
 use native.Mathlib.Omega.{arith}

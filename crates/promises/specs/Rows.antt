@@ -5,6 +5,9 @@ use mathlib.Core.List.{List, [], _∷_, _++_, map}
 use lib.ListN.{length, take, drop, replicate}
 use lib.Seq.{sets}
 use Rattle.laws.specs.Words.{numberAt, little}
+use Rattle.registers.specs.Files.{fileKind, fileBytes}
+use Rattle.record.specs.Records.{recordKind, recordBytes}
+use Rattle.definition.specs.Limits.{mostBytes}
 use Rattle.definition.specs.Visits.{visitOf}
 use Rattle.definition.specs.Listings.{listingCall}
 use Rattle.definition.specs.declared.Answer.{Answer}
@@ -25,9 +28,13 @@ put place bytes b = sets b place bytes
 abbrev pub long : ℕ → Patch
 long n b = take n b ++ replicate (n - length b) 0
 
--- a record: opcode 40, count 0, access 0x01, size 8, all else 0
+-- an opcode that no rule of a digest names
+abbrev pub plain-opcode : ℕ
+plain-opcode = 40
+
+-- a record: that opcode, count 0, access 0x01, size 8, all else 0
 abbrev pub recordWith : List Patch → List ℕ
-recordWith cs = patched (put 0 (0x10 ∷ 40 ∷ []) ∷ put 16 (8 ∷ []) ∷ put 37 (0x01 ∷ []) ∷ cs) (replicate 40 0)
+recordWith cs = patched (put 0 (recordKind ∷ plain-opcode ∷ []) ∷ put 16 (8 ∷ []) ∷ put 37 (0x01 ∷ []) ∷ cs) (replicate recordBytes 0)
 
 abbrev pub opcode : ℕ → Patch
 opcode n = put 1 (little 2 n)
@@ -71,7 +78,7 @@ list n = put 38 (little 2 n)
 
 -- a register file that knows nothing but what is said
 abbrev pub fileKnowing : List Patch → List ℕ
-fileKnowing cs = patched (put 0 (0x20 ∷ []) ∷ cs) (replicate 141 0)
+fileKnowing cs = patched (put 0 (fileKind ∷ []) ∷ cs) (replicate fileBytes 0)
 
 abbrev pub knows : ℕ → ℕ → Patch
 knows k v f = put (5 + 8 * k) (little 8 v) (put 1 (little 4 (numberAt f 1 4 + 2 ^ k)) f)
@@ -205,7 +212,7 @@ rowIn n s r f a l = record { fields = r; file = f; room = n; start = s; answer =
 
 -- room for every log, and bytes before and behind it
 abbrev pub row : List Patch → List Patch → Answer → List ℕ → Row
-row r f a l = rowIn 181 2 r f a l
+row r f a l = rowIn (mostBytes + 4) 2 r f a l
 
 abbrev pub buffer : ℕ → List ℕ
 buffer n = replicate n 0xEE

@@ -10,7 +10,7 @@ use Rattle.laws.proofs.Choice.{and-left}
 use Rattle.laws.proofs.Every.{Every, every-at, every-weaken, any-false, first-zero}
 use Rattle.registers.specs.Banks.{reg, isRegister}
 use Rattle.registers.specs.declared.RegSpec.{RegSpec}
-use Rattle.record.specs.Records.{isRecord, recordOf, outside, recordRefusal, recordAnswer, noRecord, specAt, regAt}
+use Rattle.record.specs.Records.{recordKind, recordBytes, isRecord, recordOf, outside, recordRefusal, recordAnswer, noRecord, specAt, regAt}
 use Rattle.record.specs.declared.Record.{Record}
 use Rattle.record.specs.declared.RecordAnswer.{RecordAnswer}
 
@@ -56,10 +56,10 @@ pub reg-inside : {x : Record} → Inside x → (i : ℕ) → isRegister (regAt x
 unfolding isRegister
 reg-inside {x} h i = every-at (λ (y : RegSpec). isRegister (y .bank) (y .number) ≡ true) (x .regs) (reg 0 0) (h .regs) refl i
 
--- a record has 40 bytes
-pub forty : (b : List ℕ) → isRecord b ≡ true → length b ≡ 40
+-- a record has its kind's length
+pub record-long : (b : List ℕ) → isRecord b ≡ true → length b ≡ recordBytes
 unfolding isRecord
-forty b e = eqb-true (length b) 40 (and-left (eqb (length b) 40) (eqb (getD b 0 0) 0x10) e)
+record-long b e = eqb-true (length b) recordBytes (and-left (eqb (length b) recordBytes) (eqb (getD b 0 0) recordKind) e)
 
 -- what it is that is not refused
 pub record Passed (b : List ℕ) : Type 0 where

@@ -1,4 +1,4 @@
--- A record of kind 0x10, from its 40 bytes.
+-- A record, from its bytes.
 use Prim.Native.Nat.{ℕ, _+_}
 use mathlib.Core.List.{List, [], _∷_}
 use mathlib.Core.Bool.{Bool, not, cond, _&&_}
@@ -12,9 +12,16 @@ use Rattle.digest.specs.Digests.{emptyDigest}
 use Rattle.record.specs.declared.Record.{Record}
 use Rattle.record.specs.declared.RecordAnswer.{RecordAnswer}
 
+-- a record's kind and its length
+abbrev pub recordKind : ℕ
+recordKind = 0x10
+
+abbrev pub recordBytes : ℕ
+recordBytes = 40
+
 -- refusal 1 where this fails
 unfoldable pub isRecord : List ℕ → Bool
-isRecord b = eqb (length b) 40 && eqb (getD b 0 0) 0x10
+isRecord b = eqb (length b) recordBytes && eqb (getD b 0 0) recordKind
 
 abbrev pub regFrom : List ℕ → ℕ → RegSpec
 regFrom b i = reg (getD b i 0) (getD b (i + 1) 0)

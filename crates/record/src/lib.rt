@@ -1,4 +1,4 @@
-// A record of one instruction, from its 40 bytes.
+// A record of one instruction, from its bytes.
 use digest::BehaviorDigest;
 use registers::RegSpec;
 ghost use mathlib.Core.Path.{_≡_};
@@ -9,7 +9,12 @@ ghost use lib.Dec.{ltb};
 ghost use Rattle.laws.specs.Words.{bit};
 ghost use Rattle.laws.specs.Tests.{any};
 ghost use Rattle.registers.specs.Banks.{isRegister};
-ghost use Rattle.record.specs.Records.{regFrom, recordOf, outside, refusedRecord, recordAnswer, specAt, regAt, vexW, rexW, operandSize, addressSize};
+ghost use Rattle.record.specs.Records.{recordBytes, regFrom, recordOf, outside, refusedRecord, recordAnswer, specAt, regAt, vexW, rexW, operandSize, addressSize};
+
+// A record's kind and its length.
+pub const RECORD_KIND: u8 = 0x10;
+
+pub const RECORD_BYTES: usize = 40;
 
 // The fields of a record, in their order: `size` is document 01's `mem_size`.
 pub struct Record {
@@ -33,14 +38,14 @@ pub struct RecordAnswer {
 }
 
 impl Record {
-    // The record in 40 bytes, or refusal 1 or 2.
+    // The record in its bytes, or refusal 1 or 2.
     pub fn from_bytes(b: &[u8]) -> RecordAnswer
         ensures { λ r. ⌜ r ≡ recordAnswer (now (b .entry)) ⌝ }
     {
-        if b.len() != 40 {
+        if b.len() != RECORD_BYTES {
             return Record::refused(1);
         }
-        if b[0] != 0x10 {
+        if b[0] != RECORD_KIND {
             return Record::refused(1);
         }
         if is_outside(b) {
@@ -83,7 +88,7 @@ impl Record {
     }
 
     fn parse(b: &[u8]) -> Record
-        requires { ⌜ length (now b) ≡ 40 ⌝ }
+        requires { ⌜ length (now b) ≡ recordBytes ⌝ }
         ensures { λ r. ⌜ r ≡ recordOf (now (b .entry)) ⌝ }
     {
         let specs = [b[4], b[5], b[6], b[7]];
@@ -178,7 +183,7 @@ fn reg_from(b: &[u8], i: usize) -> RegSpec
 
 // Whether some number of a record is outside its table. All tests are made, so that no branch is taken between them.
 fn is_outside(b: &[u8]) -> bool
-    requires { ⌜ length (now b) ≡ 40 ⌝ }
+    requires { ⌜ length (now b) ≡ recordBytes ⌝ }
     ensures { λ r. ⌜ r ≡ outside (recordOf (now (b .entry))) ⌝ }
 {
     (4 < b[3])
@@ -191,14 +196,14 @@ fn is_outside(b: &[u8]) -> bool
 }
 
 fn has_bad_spec(b: &[u8]) -> bool
-    requires { ⌜ length (now b) ≡ 40 ⌝ }
+    requires { ⌜ length (now b) ≡ recordBytes ⌝ }
     ensures { λ r. ⌜ r ≡ any (λ s. ltb 35 s) (recordOf (now (b .entry)) .specs) ⌝ }
 {
     (35 < b[4]) | (35 < b[5]) | (35 < b[6]) | (35 < b[7])
 }
 
 fn has_bad_reg(b: &[u8]) -> bool
-    requires { ⌜ length (now b) ≡ 40 ⌝ }
+    requires { ⌜ length (now b) ≡ recordBytes ⌝ }
     ensures { λ r. ⌜ r ≡ any (λ y. not (isRegister (y .bank) (y .number))) (recordOf (now (b .entry)) .regs) ⌝ }
 {
     is_bad(b[8], b[9]) | is_bad(b[10], b[11]) | is_bad(b[12], b[13]) | is_bad(b[14], b[15])

@@ -1,5 +1,5 @@
 -- A register file, from its bytes, and what it answers of a register.
-use Prim.Native.Nat.{ℕ, zero, suc, _+_, _-_, _^_, _/_, _%_}
+use Prim.Native.Nat.{ℕ, zero, suc, _+_, _-_, _*_, _^_, _/_, _%_}
 use mathlib.Core.List.{List, [], _∷_}
 use mathlib.Core.Bool.{Bool, cond, _&&_}
 use lib.ListN.{length, getD, replicate}
@@ -20,16 +20,25 @@ unfoldable pub numbersFrom : List ℕ → ℕ → ℕ → List ℕ
 numbersFrom b i zero = []
 numbersFrom b i (suc n) = numberAt b i 8 ∷ numbersFrom b (i + 8) n
 
--- 141 bytes: kind 0x20; 4 bytes of known bits; 17 values of 8 bytes
+-- a file's kind, how many values it holds, and its length: the kind, 4 bytes of known bits, then the values
+abbrev pub fileKind : ℕ
+fileKind = 0x20
+
+abbrev pub fileSlots : ℕ
+fileSlots = 17
+
+abbrev pub fileBytes : ℕ
+fileBytes = 5 + 8 * fileSlots
+
 unfoldable pub fileOf : List ℕ → RegisterFile
-fileOf b = fileWith (numbersFrom b 5 17) (numberAt b 1 4)
+fileOf b = fileWith (numbersFrom b 5 fileSlots) (numberAt b 1 4)
 
 unfoldable pub isFile : List ℕ → Bool
-isFile b = eqb (length b) 141 && eqb (getD b 0 0) 0x20 && ltb (numberAt b 1 4) (2 ^ 17)
+isFile b = eqb (length b) fileBytes && eqb (getD b 0 0) fileKind && ltb (numberAt b 1 4) (2 ^ fileSlots)
 
 -- a file that knows nothing
 unfoldable pub noFile : RegisterFile
-noFile = fileWith (replicate 17 0) 0
+noFile = fileWith (replicate fileSlots 0) 0
 
 abbrev pub refusedFile : FileAnswer
 refusedFile = record { number = 3; file = noFile }
@@ -49,7 +58,7 @@ part s b w = record { slot = s; below = b; bits = w }
 
 -- no part of any register of a file
 abbrev pub nowhere : Part
-nowhere = part 17 0 0
+nowhere = part fileSlots 0 0
 
 -- by bank, of register n: Q whole, D the low 32 bits, W the low 16, rB and B 0-3 the low 8, B 4-7 bits 8-15 of register number minus 4;
 -- RIP, and EIP its low 32 bits
@@ -70,7 +79,7 @@ partOf x = cond (isRegister (x .bank) (x .number)) (getD (bankParts (x .number))
 
 -- what a file answers of one of its slots
 unfoldable pub slotOf : RegisterFile → ℕ → Value
-slotOf f k = cond (ltb k 17 && bit (f .known) k) (Known (getD (f .values) k 0)) Unknown
+slotOf f k = cond (ltb k fileSlots && bit (f .known) k) (Known (getD (f .values) k 0)) Unknown
 
 -- what a value gives, unknown where it is
 abbrev pub after : Value → (ℕ → Value) → Value

@@ -5,8 +5,18 @@ ghost use Prim.Native.Nat.{_<_, _/_, _%_, _^_};
 ghost use lib.ListN.{length, getD};
 ghost use lib.Dec.{ltb};
 ghost use Rattle.registers.specs.Banks.{reg, bankNumbers, isRegister, isLogged, widthOf};
-ghost use Rattle.registers.specs.Files.{fileWith, fileOf, refusedFile, fileAnswer, slotOf, valueOf, after};
+ghost use Rattle.registers.specs.Files.{fileBytes, fileWith, fileOf, refusedFile, fileAnswer, slotOf, valueOf, after};
 ghost use Rattle.registers.specs.declared.Value.the-variants.{Known, Unknown};
+
+// A file's kind; how many values it holds; its length: the kind, four bytes of known bits, then the values.
+pub const FILE_KIND: u8 = 0x20;
+
+pub const FILE_SLOTS: usize = 17;
+
+pub const FILE_BYTES: usize = 5 + 8 * FILE_SLOTS;
+
+// The first number that is no known bits of a file.
+const KNOWN_END: u32 = 1 << FILE_SLOTS;
 
 // A register: its bank, and its number there.
 pub struct RegSpec {
@@ -22,7 +32,7 @@ pub enum Value {
 
 // The sixteen general registers and rip, and a bit for each that is known.
 pub struct RegisterFile {
-    pub values: [u64; 17],
+    pub values: [u64; FILE_SLOTS],
     pub known: u32,
 }
 
@@ -95,17 +105,17 @@ fn bank_numbers(bank: u8) -> u8
 }
 
 impl RegisterFile {
-    // The file in 141 bytes, or refusal 3.
+    // The file in its bytes, or refusal 3.
     pub fn from_bytes(b: &[u8]) -> FileAnswer
         ensures { λ r. ⌜ r ≡ fileAnswer (now (b .entry)) ⌝ }
     {
-        if b.len() != 141 {
+        if b.len() != FILE_BYTES {
             return RegisterFile::refused();
         }
-        if b[0] != 0x20 {
+        if b[0] != FILE_KIND {
             return RegisterFile::refused();
         }
-        if laws::u32_at(b, 1) < 131072 {
+        if laws::u32_at(b, 1) < KNOWN_END {
             let file = RegisterFile::parse(b);
             FileAnswer {
                 number: 0,
@@ -120,7 +130,7 @@ impl RegisterFile {
         ensures { λ r. ⌜ r ≡ refusedFile ⌝ }
     {
         let file = RegisterFile {
-            values: [0; 17],
+            values: [0; FILE_SLOTS],
             known: 0,
         };
         FileAnswer {
@@ -130,7 +140,7 @@ impl RegisterFile {
     }
 
     fn parse(b: &[u8]) -> RegisterFile
-        requires { ⌜ length (now b) ≡ 141 ⌝ }
+        requires { ⌜ length (now b) ≡ fileBytes ⌝ }
         ensures { λ r. ⌜ r ≡ fileOf (now (b .entry)) ⌝ }
     {
         let known = laws::u32_at(b, 1);
@@ -176,11 +186,11 @@ impl RegisterFile {
 
 // The same of the values lent, with their known bits: an element of a lent array is read where it stands, and that of a file by value once
 // the whole file is copied.
-pub fn slot_in(values: &[u64; 17], known: u32, k: u8) -> Value
+pub fn slot_in(values: &[u64; FILE_SLOTS], known: u32, k: u8) -> Value
     ensures { λ r. ⌜ r ≡ slotOf (fileWith (now (values .entry)) known) k ⌝ }
 {
     let i = k as usize;
-    if i < 17 {
+    if i < FILE_SLOTS {
         if (known >> k) % 2 == 1 {
             Value::Known(values[i])
         } else {
@@ -191,7 +201,7 @@ pub fn slot_in(values: &[u64; 17], known: u32, k: u8) -> Value
     }
 }
 
-pub fn value_in(values: &[u64; 17], known: u32, x: RegSpec) -> Value
+pub fn value_in(values: &[u64; FILE_SLOTS], known: u32, x: RegSpec) -> Value
     ensures { λ r. ⌜ r ≡ valueOf (fileWith (now (values .entry)) known) x ⌝ }
 {
     let bank = x.bank;
@@ -208,7 +218,7 @@ pub fn value_in(values: &[u64; 17], known: u32, x: RegSpec) -> Value
     }
 }
 
-fn general(values: &[u64; 17], known: u32, number: u8) -> Value
+fn general(values: &[u64; FILE_SLOTS], known: u32, number: u8) -> Value
     ensures { λ r. ⌜ r ≡ cond (ltb number 16) (slotOf (fileWith (now (values .entry)) known) number) Unknown ⌝ }
 {
     if number < 16 {
@@ -218,7 +228,7 @@ fn general(values: &[u64; 17], known: u32, number: u8) -> Value
     }
 }
 
-fn pointer(values: &[u64; 17], known: u32, number: u8) -> Value
+fn pointer(values: &[u64; FILE_SLOTS], known: u32, number: u8) -> Value
     ensures { λ r. ⌜ r ≡ cond (ltb number 1) (slotOf (fileWith (now (values .entry)) known) 16) Unknown ⌝ }
 {
     if number < 1 {
@@ -229,7 +239,7 @@ fn pointer(values: &[u64; 17], known: u32, number: u8) -> Value
 }
 
 // The low byte of a register, and from 4 on the byte above it of the register four before.
-fn byte(values: &[u64; 17], known: u32, number: u8) -> Value
+fn byte(values: &[u64; FILE_SLOTS], known: u32, number: u8) -> Value
     ensures { λ r. ⌜ r ≡ valueOf (fileWith (now (values .entry)) known) (reg 4 number) ⌝ }
 {
     if number < 4 {

@@ -1,6 +1,8 @@
 // The digest call: 0-7 number, 8-15 behavior, 16-23 operand access, 32-47 list. Fix-ups need bit 4 of the behavior.
 use crate::rows::report;
 use crate::samples::*;
+use record::RECORD_BYTES;
+use record::RECORD_KIND;
 
 pub(crate) fn run() {
     loops();
@@ -13,7 +15,7 @@ pub(crate) fn run() {
     lengths();
 }
 
-fn row(name: &[u8], x: [u8; 40], answer: u64) {
+fn row(name: &[u8], x: [u8; RECORD_BYTES], answer: u64) {
     report(name, machhurel::machhurel_digest(&x) == answer);
 }
 
@@ -102,16 +104,16 @@ fn refused() {
     row(b"digest of list 256", with(plain(), LIST + 1, 1), 2);
 }
 
-// Zeros behind the kind are a record where there are 40 bytes of it.
+// Zeros behind the kind are a record where there are as many bytes as a record has.
 fn lengths() {
-    let mut x = [0u8; 41];
-    x[0] = 0x10;
-    let short = machhurel::machhurel_digest(&x[..39]);
-    report(b"digest of 39 bytes", short == 1);
-    let right = machhurel::machhurel_digest(&x[..40]);
-    report(b"digest of 40 bytes", right == 0);
+    let mut x = [0u8; RECORD_BYTES + 1];
+    x[0] = RECORD_KIND;
+    let short = machhurel::machhurel_digest(&x[..RECORD_BYTES - 1]);
+    report(b"digest of a byte less", short == 1);
+    let right = machhurel::machhurel_digest(&x[..RECORD_BYTES]);
+    report(b"digest of a record's bytes", right == 0);
     let long = machhurel::machhurel_digest(&x);
-    report(b"digest of 41 bytes", long == 1);
+    report(b"digest of a byte more", long == 1);
     let none = machhurel::machhurel_digest(b"");
     report(b"digest of no byte", none == 1);
 }

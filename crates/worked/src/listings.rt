@@ -3,6 +3,7 @@ use crate::rows::BUFFER;
 use crate::rows::holds;
 use crate::rows::report;
 use crate::samples::*;
+use record::RECORD_BYTES;
 
 pub(crate) fn run() {
     explicit();
@@ -12,20 +13,27 @@ pub(crate) fn run() {
 }
 
 // The call on the front of a buffer. No answer is as large as the one where the buffer is too small.
-fn call(x: [u8; 40], out: &mut [u8], room: usize, start: usize) -> u64 {
+fn call(x: [u8; RECORD_BYTES], out: &mut [u8], room: usize, start: usize) -> u64 {
     if out.len() < room {
         return 0xFFFF_FFFF_FFFF_FFFF;
     }
     machhurel::machhurel_listing(&x, &mut out[..room], start)
 }
 
-fn row_in(name: &[u8], x: [u8; 40], room: usize, start: usize, answer: u64, bytes: &[u8]) {
+fn row_in(
+    name: &[u8],
+    x: [u8; RECORD_BYTES],
+    room: usize,
+    start: usize,
+    answer: u64,
+    bytes: &[u8],
+) {
     let mut out = [0xEEu8; BUFFER];
     let given = call(x, &mut out, room, start);
     report(name, (given == answer) & holds(&out, start, bytes));
 }
 
-fn row(name: &[u8], x: [u8; 40], answer: u64, bytes: &[u8]) {
+fn row(name: &[u8], x: [u8; RECORD_BYTES], answer: u64, bytes: &[u8]) {
     row_in(name, x, 60, 3, answer, bytes);
 }
 
@@ -55,7 +63,7 @@ fn implicit() {
 }
 
 // Flags, list 26 and four operands: no listing is longer.
-fn longest() -> [u8; 40] {
+fn longest() -> [u8; RECORD_BYTES] {
     let x = with(operands(4, REG_RRR, REG_MMM, 0xE4), SPEC_3, DISP_U32);
     with(with(x, BEHAVIOR, 0x0C), LIST, 26)
 }
@@ -74,7 +82,7 @@ fn room() {
 
 fn refused() {
     row(b"listing of kind 0x20", with(plain(), 0, 0x20), 1, b"");
-    row(b"listing of spec 36", one(40, 0x20, 36), 2, b"");
+    row(b"listing of spec 36", one(PLAIN, 0x20, 36), 2, b"");
     row(b"complex BT of Disp", one(24, 0x20, MEM_DISP), 0x1804, b"");
     let listing = b"\x46\x00\x02\x01";
     row(

@@ -3,6 +3,8 @@ use crate::rows::BUFFER;
 use crate::rows::holds;
 use crate::rows::report;
 use crate::samples::*;
+use record::RECORD_BYTES;
+use registers::FILE_BYTES;
 
 pub(crate) fn run() {
     registers();
@@ -16,7 +18,13 @@ pub(crate) fn run() {
 }
 
 // The call on the front of a buffer. No answer is as large as the one where the buffer is too small.
-fn call(x: [u8; 40], file: [u8; 141], log: &mut [u8], room: usize, start: usize) -> u64 {
+fn call(
+    x: [u8; RECORD_BYTES],
+    file: [u8; FILE_BYTES],
+    log: &mut [u8],
+    room: usize,
+    start: usize,
+) -> u64 {
     if log.len() < room {
         return 0xFFFF_FFFF_FFFF_FFFF;
     }
@@ -25,8 +33,8 @@ fn call(x: [u8; 40], file: [u8; 141], log: &mut [u8], room: usize, start: usize)
 
 fn row_in(
     name: &[u8],
-    x: [u8; 40],
-    file: [u8; 141],
+    x: [u8; RECORD_BYTES],
+    file: [u8; FILE_BYTES],
     room: usize,
     start: usize,
     answer: u64,
@@ -38,7 +46,7 @@ fn row_in(
 }
 
 // Room for every log, and bytes before and behind it.
-fn row(name: &[u8], x: [u8; 40], file: [u8; 141], answer: u64, bytes: &[u8]) {
+fn row(name: &[u8], x: [u8; RECORD_BYTES], file: [u8; FILE_BYTES], answer: u64, bytes: &[u8]) {
     row_in(name, x, file, 181, 2, answer, bytes);
 }
 
@@ -52,13 +60,13 @@ fn registers() {
     row(b"P4", p4, unknown(), 0x0F_0000_0000, log);
 }
 
-fn p2() -> [u8; 40] {
+fn p2() -> [u8; RECORD_BYTES] {
     let x = with(operands(2, MEM_DISP, REG_RRR, 0x07), BEHAVIOR, 0x08);
     with(with(x, NUMBER_1, 3), DISP, 8)
 }
 
 // rbx is 0x1000.
-fn p2_file() -> [u8; 141] {
+fn p2_file() -> [u8; FILE_BYTES] {
     knowing(unknown(), 3, 0x1000)
 }
 
@@ -144,23 +152,23 @@ fn sizes() {
 }
 
 // A start past the end of an empty buffer: each number where later ones would be given too.
-fn refuses(name: &[u8], x: [u8; 40], file: [u8; 141], answer: u64) {
+fn refuses(name: &[u8], x: [u8; RECORD_BYTES], file: [u8; FILE_BYTES], answer: u64) {
     row_in(name, x, file, 0, 1, answer, b"");
 }
 
 fn refused() {
-    let file = [0u8; 141];
-    refuses(b"refused 1", with(one(40, 0x20, 36), 0, 0x11), file, 1);
-    refuses(b"refused 2", one(40, 0x20, 36), file, 2);
-    refuses(b"refused 3", one(40, 0x20, 0), file, 3);
-    refuses(b"refused 4", one(40, 0x20, 0), unknown(), 0x2804);
+    let file = [0u8; FILE_BYTES];
+    refuses(b"refused 1", with(one(PLAIN, 0x20, 36), 0, 0x11), file, 1);
+    refuses(b"refused 2", one(PLAIN, 0x20, 36), file, 2);
+    refuses(b"refused 3", one(PLAIN, 0x20, 0), file, 3);
+    refuses(b"refused 4", one(PLAIN, 0x20, 0), unknown(), 0x2804);
     let x = with(operands(2, DEREF, 0, 0x05), SIZE, 0);
     refuses(b"refused 5", x, unknown(), 5);
     let y = with(operands(2, DEREF, 0, 0x01), SIZE, 0);
     refuses(b"refused 6", y, unknown(), 6);
     refuses(
         b"refused 7",
-        one(40, 0x00, DEREF),
+        one(PLAIN, 0x00, DEREF),
         unknown(),
         0x05_0000_0007,
     );

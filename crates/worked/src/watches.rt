@@ -11,6 +11,8 @@ use crate::samples::with;
 use machhurel::machhurel_verdict;
 use machhurel::machhurel_watch_new;
 use machhurel::machhurel_watch_step;
+use record::RECORD_BYTES;
+use registers::FILE_BYTES;
 
 // The word for no number.
 const NEVER: u64 = 18446744073709551615;
@@ -53,11 +55,11 @@ fn made() {
 }
 
 // 8 bytes stored at rbx.
-fn storing() -> [u8; 40] {
+fn storing() -> [u8; RECORD_BYTES] {
     with(operands(2, DEREF, REG_RRR, 0x06), NUMBER_1, 3)
 }
 
-fn at(address: u64) -> [u8; 141] {
+fn at(address: u64) -> [u8; FILE_BYTES] {
     knowing(unknown(), 3, address)
 }
 
@@ -65,8 +67,8 @@ fn at(address: u64) -> [u8; 141] {
 fn step(
     name: &[u8],
     mut watch: [u64; 10],
-    record: [u8; 40],
-    file: [u8; 141],
+    record: [u8; RECORD_BYTES],
+    file: [u8; FILE_BYTES],
     answer: u64,
     after: [u64; 10],
 ) {
@@ -148,7 +150,7 @@ fn untaken() {
     step(
         b"step past the limit, refused",
         full,
-        [0u8; 40],
+        [0u8; RECORD_BYTES],
         at(0xFFC),
         2,
         full,
