@@ -1,2 +1,3 @@
-pub mod Doubling
-pub mod Addresses
+pub mod Halves
+pub mod Sums
+pub mod NoPlace

@@ -4,17 +4,22 @@ use registers::RegSpec;
 ghost use mathlib.Core.Path.{_≡_};
 ghost use mathlib.Core.Bool.{not};
 ghost use Prim.Native.Nat.{_+_, _≤_, _<_};
-ghost use lib.ListN.{length};
+ghost use mathlib.Core.List.{_∷_, []};
+ghost use lib.ListN.{length, getD};
 ghost use lib.Dec.{ltb};
 ghost use Rattle.laws.specs.Words.{bit};
 ghost use Rattle.laws.specs.Tests.{any};
 ghost use Rattle.registers.specs.Banks.{isRegister};
-ghost use Rattle.record.specs.Records.{recordBytes, regFrom, recordOf, outside, refusedRecord, recordAnswer, specAt, regAt, vexW, rexW, operandSize, addressSize};
+ghost use Rattle.record.specs.Records.{recordBytes, recordLength, regFrom, recordOf, outside, recordRefusal, refusedRecord, recordAnswer, specAt, regAt, vexW, rexW, operandSize, addressSize};
 
-// A record's kind and its length.
+// The kinds of records and their lengths: the second names a segment behind what the first has.
 pub const RECORD_KIND: u8 = 0x10;
 
+pub const SEGMENT_KIND: u8 = 0x11;
+
 pub const RECORD_BYTES: usize = 40;
+
+pub const SEGMENT_BYTES: usize = RECORD_BYTES + 1;
 
 // The fields of a record, in their order: `size` is document 01's `mem_size`.
 pub struct Record {
@@ -29,6 +34,7 @@ pub struct Record {
     pub prefixes: u8,
     pub mask: u8,
     pub digest: BehaviorDigest,
+    pub segment: u8,
 }
 
 // A record, or a refusal number and a record whose numbers are all 0.
@@ -42,14 +48,9 @@ impl Record {
     pub fn from_bytes(b: &[u8]) -> RecordAnswer
         ensures { λ r. ⌜ r ≡ recordAnswer (now (b .entry)) ⌝ }
     {
-        if b.len() != RECORD_BYTES {
-            return Record::refused(1);
-        }
-        if b[0] != RECORD_KIND {
-            return Record::refused(1);
-        }
-        if is_outside(b) {
-            return Record::refused(2);
+        let number = refusal_of(b);
+        if number != 0 {
+            return Record::refused(number);
         }
         let read = Record::parse(b);
         RecordAnswer {
@@ -80,6 +81,7 @@ impl Record {
             prefixes: 0,
             mask: 0,
             digest: digest,
+            segment: 0,
         };
         RecordAnswer {
             number: number,
@@ -87,8 +89,8 @@ impl Record {
         }
     }
 
-    fn parse(b: &[u8]) -> Record
-        requires { ⌜ length (now b) ≡ recordBytes ⌝ }
+    pub fn parse(b: &[u8]) -> Record
+        requires { ⌜ recordBytes ≤ length (now b) ⌝ }
         ensures { λ r. ⌜ r ≡ recordOf (now (b .entry)) ⌝ }
     {
         let specs = [b[4], b[5], b[6], b[7]];
@@ -115,18 +117,24 @@ impl Record {
             prefixes: b[34],
             mask: b[35],
             digest: digest,
+            segment: segment_in(b),
         }
     }
 
-    // The four are taken out before one is chosen: else the whole record is copied for it.
+    // One of four numbers, by a test for each: an array that is asked at a place lies in memory.
     pub fn spec(self, i: u8) -> u8
         ensures { λ r. ⌜ r ≡ specAt self i ⌝ }
     {
-        let specs = self.specs;
-        let k = i as usize;
-        if k < 4 { specs[k] } else { 0 }
+        one_of(
+            i,
+            self.specs[0],
+            self.specs[1],
+            self.specs[2],
+            self.specs[3],
+        )
     }
 
+    // The four are taken out before one is chosen: else the whole record is copied for it.
     pub fn reg_at(self, i: u8) -> RegSpec
         ensures { λ r. ⌜ r ≡ regAt self i ⌝ }
     {
@@ -164,11 +172,64 @@ impl Record {
     }
 }
 
+// The length of a record by its kind, 0 for no kind.
+pub fn length_of(kind: u8) -> usize
+    ensures { λ r. ⌜ r ≡ recordLength kind ⌝ }
+{
+    if kind == RECORD_KIND {
+        return RECORD_BYTES;
+    }
+    if kind == SEGMENT_KIND {
+        SEGMENT_BYTES
+    } else {
+        0
+    }
+}
+
+// The refusal of a record's bytes: 1 or 2, or 0.
+pub fn refusal_of(b: &[u8]) -> u8
+    ensures { λ r. ⌜ r ≡ recordRefusal (now (b .entry)) ⌝ }
+{
+    if b.len() == 0 {
+        return 1;
+    }
+    if b.len() != length_of(b[0]) {
+        return 1;
+    }
+    if is_outside(b) {
+        return 2;
+    }
+    0
+}
+
+fn one_of(i: u8, a: u8, b: u8, c: u8, d: u8) -> u8
+    ensures { λ r. ⌜ r ≡ getD (a ∷ b ∷ c ∷ d ∷ []) i 0 ⌝ }
+{
+    match i {
+        0 => a,
+        1 => b,
+        2 => c,
+        3 => d,
+        _ => 0,
+    }
+}
+
 fn has_bit(v: u8, k: u8) -> bool
     requires { ⌜ k < 8 ⌝ }
     ensures { λ r. ⌜ r ≡ bit v k ⌝ }
 {
     (v >> k) % 2 == 1
+}
+
+// The segment, none in a kind that has no byte for it.
+fn segment_in(b: &[u8]) -> u8
+    ensures { λ r. ⌜ r ≡ getD (now (b .entry)) recordBytes 0 ⌝ }
+{
+    if RECORD_BYTES < b.len() {
+        b[RECORD_BYTES]
+    } else {
+        0
+    }
 }
 
 fn reg_from(b: &[u8], i: usize) -> RegSpec
@@ -183,7 +244,7 @@ fn reg_from(b: &[u8], i: usize) -> RegSpec
 
 // Whether some number of a record is outside its table. All tests are made, so that no branch is taken between them.
 fn is_outside(b: &[u8]) -> bool
-    requires { ⌜ length (now b) ≡ recordBytes ⌝ }
+    requires { ⌜ recordBytes ≤ length (now b) ⌝ }
     ensures { λ r. ⌜ r ≡ outside (recordOf (now (b .entry))) ⌝ }
 {
     (4 < b[3])
@@ -193,17 +254,18 @@ fn is_outside(b: &[u8]) -> bool
         | (15 < b[34])
         | (7 < b[35])
         | (28 < laws::u16_at(b, 38))
+        | (2 < segment_in(b))
 }
 
 fn has_bad_spec(b: &[u8]) -> bool
-    requires { ⌜ length (now b) ≡ recordBytes ⌝ }
+    requires { ⌜ recordBytes ≤ length (now b) ⌝ }
     ensures { λ r. ⌜ r ≡ any (λ s. ltb 35 s) (recordOf (now (b .entry)) .specs) ⌝ }
 {
     (35 < b[4]) | (35 < b[5]) | (35 < b[6]) | (35 < b[7])
 }
 
 fn has_bad_reg(b: &[u8]) -> bool
-    requires { ⌜ length (now b) ≡ recordBytes ⌝ }
+    requires { ⌜ recordBytes ≤ length (now b) ⌝ }
     ensures { λ r. ⌜ r ≡ any (λ y. not (isRegister (y .bank) (y .number))) (recordOf (now (b .entry)) .regs) ⌝ }
 {
     is_bad(b[8], b[9]) | is_bad(b[10], b[11]) | is_bad(b[12], b[13]) | is_bad(b[14], b[15])

@@ -14,7 +14,7 @@ use borrow.Author.Tests.{eqb-true}
 use Rattle.laws.specs.Words.{bit}
 use Rattle.laws.proofs.Every.{Every, every-at, at}
 use Rattle.laws.proofs.Numbers.{number-below}
-use Rattle.registers.specs.Banks.{bankWidths, widthOf, isRegister}
+use Rattle.registers.specs.Banks.{bankWidths, widthOf, isLogged}
 use Rattle.registers.specs.Files.{fileSlots, Part, nowhere, bankParts, partOf, slotOf, after, partValue, valueOf, numbersFrom, fileOf}
 use Rattle.registers.proofs.Parts.{inner}
 use Rattle.registers.specs.declared.RegSpec.{RegSpec}
@@ -74,7 +74,7 @@ fitting f bank p h = by (eqb (p .bits) (8 * getD bankWidths bank 0)) refl h
 -- a value has no more bytes than its register
 pub value-below : (f : RegisterFile) (x : RegSpec) → Below (2 ^ (8 * widthOf x)) (valueOf f x)
 unfolding valueOf partOf widthOf fits
-value-below f x = by (isRegister (x .bank) (x .number))
+value-below f x = by (isLogged (x .bank) (x .number))
   where
     p : Part
     p = getD (bankParts (x .number)) (x .bank) nowhere
@@ -86,7 +86,7 @@ value-below f x = by (isRegister (x .bank) (x .number))
 -- what is known of a register is a word
 pub value-word : (f : RegisterFile) (x : RegSpec) → Below (2 ^ 64) (valueOf f x)
 unfolding valueOf partOf
-value-word f x = by (isRegister (x .bank) (x .number))
+value-word f x = by (isLogged (x .bank) (x .number))
   where
     p : Part
     p = getD (bankParts (x .number)) (x .bank) nowhere

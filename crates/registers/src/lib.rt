@@ -1,22 +1,38 @@
 // Registers by bank and number, and the register file that says what is known of them.
 ghost use mathlib.Core.Path.{_≡_};
 ghost use mathlib.Core.Bool.{cond};
-ghost use Prim.Native.Nat.{_<_, _/_, _%_, _^_};
+ghost use Prim.Native.Nat.{_+_, _<_, _≤_, _^_};
 ghost use lib.ListN.{length, getD};
-ghost use lib.Dec.{ltb};
-ghost use Rattle.registers.specs.Banks.{reg, bankNumbers, isRegister, isLogged, widthOf};
-ghost use Rattle.registers.specs.Files.{fileBytes, fileWith, fileOf, refusedFile, fileAnswer, slotOf, valueOf, after};
+ghost use Rattle.laws.specs.Words.{numberAt, bit};
+ghost use Rattle.registers.specs.Banks.{reg, bankNumbers, loggedNumbers, isRegister, isLogged, widthOf};
+ghost use Rattle.registers.specs.Files.{fileBytes, fileSlots, fileValues, fileLength, fileWith, fileOf, FileLong, refusedFile, fileAnswer, valueOf};
 ghost use Rattle.registers.specs.declared.Value.the-variants.{Known, Unknown};
+ghost use Rattle.registers.specs.Told.{fileRefusal, twoValues, isTold, toldNumbers, toldSlot, toldPart, toldByte};
 
-// A file's kind; how many values it holds; its length: the kind, four bytes of known bits, then the values.
+// How many values a file holds, and its length by its kind: the kind, four bytes of known bits, then the values. The plain kind holds
+// the general registers and rip; the other holds the bases of fs and gs behind them.
 pub const FILE_KIND: u8 = 0x20;
 
-pub const FILE_SLOTS: usize = 17;
+pub const BASED_KIND: u8 = 0x21;
 
-pub const FILE_BYTES: usize = 5 + 8 * FILE_SLOTS;
+pub const PLAIN_SLOTS: usize = 17;
 
-// The first number that is no known bits of a file.
-const KNOWN_END: u32 = 1 << FILE_SLOTS;
+pub const FILE_SLOTS: usize = 19;
+
+pub const FILE_BYTES: usize = 5 + 8 * PLAIN_SLOTS;
+
+pub const BASED_BYTES: usize = 5 + 8 * FILE_SLOTS;
+
+// The bases of fs and gs.
+pub const FS: RegSpec = RegSpec {
+    bank: 13,
+    number: 0,
+};
+
+pub const GS: RegSpec = RegSpec {
+    bank: 13,
+    number: 1,
+};
 
 // A register: its bank, and its number there.
 pub struct RegSpec {
@@ -30,7 +46,13 @@ pub enum Value {
     Unknown,
 }
 
-// The sixteen general registers and rip, and a bit for each that is known.
+// What is known of the two registers of an address.
+pub struct TwoValues {
+    pub base: Value,
+    pub index: Value,
+}
+
+// The sixteen general registers, rip, and the bases of fs and gs, and a bit for each that is known.
 pub struct RegisterFile {
     pub values: [u64; FILE_SLOTS],
     pub known: u32,
@@ -50,11 +72,11 @@ impl RegSpec {
         number < bank_numbers(bank)
     }
 
-    // What an event may name: a test of its own, over the same banks today.
+    // What an event may name: the bases of fs and gs too.
     pub fn is_logged(bank: u8, number: u8) -> bool
         ensures { λ r. ⌜ r ≡ isLogged bank number ⌝ }
     {
-        number < bank_numbers(bank)
+        number < logged_numbers(bank)
     }
 
     // How many bytes it has.
@@ -76,6 +98,7 @@ impl RegSpec {
             10 => 4,
             11 => 8,
             12 => 8,
+            13 => 8,
             _ => 0,
         }
     }
@@ -104,25 +127,24 @@ fn bank_numbers(bank: u8) -> u8
     }
 }
 
+fn logged_numbers(bank: u8) -> u8
+    ensures { λ r. ⌜ r ≡ getD loggedNumbers bank 0 ⌝ }
+{
+    if bank == 13 { 2 } else { bank_numbers(bank) }
+}
+
 impl RegisterFile {
     // The file in its bytes, or refusal 3.
     pub fn from_bytes(b: &[u8]) -> FileAnswer
         ensures { λ r. ⌜ r ≡ fileAnswer (now (b .entry)) ⌝ }
     {
-        if b.len() != FILE_BYTES {
+        if refusal_of(b) != 0 {
             return RegisterFile::refused();
         }
-        if b[0] != FILE_KIND {
-            return RegisterFile::refused();
-        }
-        if laws::u32_at(b, 1) < KNOWN_END {
-            let file = RegisterFile::parse(b);
-            FileAnswer {
-                number: 0,
-                file: file,
-            }
-        } else {
-            RegisterFile::refused()
+        let file = RegisterFile::parse(b);
+        FileAnswer {
+            number: 0,
+            file: file,
         }
     }
 
@@ -139,11 +161,12 @@ impl RegisterFile {
         }
     }
 
-    fn parse(b: &[u8]) -> RegisterFile
-        requires { ⌜ length (now b) ≡ fileBytes ⌝ }
+    pub fn parse(b: &[u8]) -> RegisterFile
+        requires { ⌜ (fileBytes ≤ length (now b)) × FileLong (now b) ⌝ }
         ensures { λ r. ⌜ r ≡ fileOf (now (b .entry)) ⌝ }
     {
         let known = laws::u32_at(b, 1);
+        let bases = bases_in(b);
         let values = [
             laws::u64_at(b, 5),
             laws::u64_at(b, 13),
@@ -162,6 +185,8 @@ impl RegisterFile {
             laws::u64_at(b, 117),
             laws::u64_at(b, 125),
             laws::u64_at(b, 133),
+            bases.fs,
+            bases.gs,
         ];
         RegisterFile {
             values: values,
@@ -169,106 +194,205 @@ impl RegisterFile {
         }
     }
 
-    // The value of one of the seventeen, where it is known.
-    pub fn slot(self, k: u8) -> Value
-        ensures { λ r. ⌜ r ≡ slotOf self k ⌝ }
-    {
-        slot_in(&self.values, self.known, k)
-    }
-
-    // What is known of a register: a part of one of the seventeen. One that the table has not is unknown.
+    // What is known of a register: a part of one of its values. One that the table has not is unknown.
     pub fn value(self, x: RegSpec) -> Value
         ensures { λ r. ⌜ r ≡ valueOf self x ⌝ }
     {
         value_in(&self.values, self.known, x)
     }
-}
 
-// The same of the values lent, with their known bits: an element of a lent array is read where it stands, and that of a file by value once
-// the whole file is copied.
-pub fn slot_in(values: &[u64; FILE_SLOTS], known: u32, k: u8) -> Value
-    ensures { λ r. ⌜ r ≡ slotOf (fileWith (now (values .entry)) known) k ⌝ }
-{
-    let i = k as usize;
-    if i < FILE_SLOTS {
-        if (known >> k) % 2 == 1 {
-            Value::Known(values[i])
-        } else {
-            Value::Unknown
+    // The same of two registers, the base and the index of an address: the file is copied once for both.
+    pub fn two_values(self, base: RegSpec, index: RegSpec) -> TwoValues
+        ensures { λ r. ⌜ r ≡ twoValues self base index ⌝ }
+    {
+        TwoValues {
+            base: value_in(&self.values, self.known, base),
+            index: value_in(&self.values, self.known, index),
         }
-    } else {
-        Value::Unknown
     }
 }
 
-pub fn value_in(values: &[u64; FILE_SLOTS], known: u32, x: RegSpec) -> Value
+// The values of fs and gs in a file's bytes: 0 in a kind that has none.
+struct Bases {
+    fs: u64,
+    gs: u64,
+}
+
+fn bases_in(b: &[u8]) -> Bases
+    requires { ⌜ FileLong (now b) ⌝ }
+    ensures { λ r. ⌜ (r .fs ≡ numberAt (now (b .entry)) fileBytes 8) × (r .gs ≡ numberAt (now (b .entry)) (fileBytes + 8) 8) ⌝ }
+{
+    if b.len() == BASED_BYTES {
+        return Bases {
+            fs: laws::u64_at(b, FILE_BYTES),
+            gs: laws::u64_at(b, FILE_BYTES + 8),
+        };
+    }
+    Bases { fs: 0, gs: 0 }
+}
+
+// The length of a file by its kind, 0 for no kind.
+pub fn length_of(kind: u8) -> usize
+    ensures { λ r. ⌜ r ≡ fileLength kind ⌝ }
+{
+    if kind == FILE_KIND {
+        return FILE_BYTES;
+    }
+    if kind == BASED_KIND {
+        BASED_BYTES
+    } else {
+        0
+    }
+}
+
+const PLAIN_END: u32 = 1 << PLAIN_SLOTS;
+
+const BASED_END: u32 = 1 << FILE_SLOTS;
+
+// The first number that is no known bits of a file of a kind.
+fn known_end(kind: u8) -> u32
+    ensures { λ r. ⌜ r ≡ 2 ^ fileValues kind ⌝ }
+{
+    if kind == FILE_KIND {
+        return PLAIN_END;
+    }
+    if kind == BASED_KIND {
+        BASED_END
+    } else {
+        1
+    }
+}
+
+// Refusal 3 of a file's bytes, or 0.
+pub fn refusal_of(b: &[u8]) -> u8
+    ensures { λ r. ⌜ r ≡ fileRefusal (now (b .entry)) ⌝ }
+{
+    if b.len() == 0 {
+        return 3;
+    }
+    if b.len() != length_of(b[0]) {
+        return 3;
+    }
+    if laws::u32_at(b, 1) < known_end(b[0]) { 0 } else { 3 }
+}
+
+// An element of a lent array is read where it stands, and that of a file by value once the whole file is copied. Most registers are
+// whole; what a file tells of the others is found without a jump on the bank.
+fn value_in(values: &[u64; FILE_SLOTS], known: u32, x: RegSpec) -> Value
     ensures { λ r. ⌜ r ≡ valueOf (fileWith (now (values .entry)) known) x ⌝ }
 {
-    let bank = x.bank;
-    let number = x.number;
-    match bank {
-        0 => whole(general(values, known, number)),
-        1 => part(general(values, known, number), 1, 4294967296),
-        2 => part(general(values, known, number), 1, 65536),
-        3 => part(general(values, known, number), 1, 256),
-        4 => byte(values, known, number),
-        9 => whole(pointer(values, known, number)),
-        10 => part(pointer(values, known, number), 1, 4294967296),
-        _ => Value::Unknown,
+    if x.bank == 0 {
+        return whole(values, known, x.number);
     }
+    let k = slot_of(x);
+    let i = k as usize;
+    let part = part_of(x, values[i]);
+    let told = is_told(x);
+    let set = is_set(known, k);
+    known_if(told & set, part)
 }
 
-fn general(values: &[u64; FILE_SLOTS], known: u32, number: u8) -> Value
-    ensures { λ r. ⌜ r ≡ cond (ltb number 16) (slotOf (fileWith (now (values .entry)) known) number) Unknown ⌝ }
+// A general register.
+fn whole(values: &[u64; FILE_SLOTS], known: u32, number: u8) -> Value
+    ensures { λ r. ⌜ r ≡ valueOf (fileWith (now (values .entry)) known) (reg 0 number) ⌝ }
 {
-    if number < 16 {
-        slot_in(values, known, number)
+    let i = number as usize;
+    if i < 16 {
+        let set = is_set(known, number);
+        known_if(set, values[i])
     } else {
         Value::Unknown
     }
 }
 
-fn pointer(values: &[u64; FILE_SLOTS], known: u32, number: u8) -> Value
-    ensures { λ r. ⌜ r ≡ cond (ltb number 1) (slotOf (fileWith (now (values .entry)) known) 16) Unknown ⌝ }
+fn known_if(set: bool, word: u64) -> Value
+    ensures { λ r. ⌜ (r ≡ cond set (Known word) Unknown) × (word < 2 ^ 64) ⌝ }
 {
-    if number < 1 {
-        slot_in(values, known, 16)
+    if set {
+        Value::Known(word)
     } else {
         Value::Unknown
     }
 }
 
-// The low byte of a register, and from 4 on the byte above it of the register four before.
-fn byte(values: &[u64; FILE_SLOTS], known: u32, number: u8) -> Value
-    ensures { λ r. ⌜ r ≡ valueOf (fileWith (now (values .entry)) known) (reg 4 number) ⌝ }
+fn is_set(known: u32, k: u8) -> bool
+    requires { ⌜ k < fileSlots ⌝ }
+    ensures { λ r. ⌜ r ≡ bit known k ⌝ }
 {
-    if number < 4 {
-        return part(slot_in(values, known, number), 1, 256);
+    (known >> k) % 2 == 1
+}
+
+// Whether a file tells of it: general registers and their parts, RIP and EIP, the bases of fs and gs.
+fn is_told(x: RegSpec) -> bool
+    ensures { λ r. ⌜ r ≡ isTold x ⌝ }
+{
+    x.number < told_numbers(x.bank)
+}
+
+fn told_numbers(bank: u8) -> u8
+    ensures { λ r. ⌜ r ≡ toldNumbers bank ⌝ }
+{
+    if bank < 4 {
+        return 16;
     }
-    if number < 8 {
-        part(slot_in(values, known, number - 4), 256, 256)
+    if bank == 4 {
+        return 8;
+    }
+    if bank == 9 {
+        return 1;
+    }
+    if bank == 10 {
+        return 1;
+    }
+    if bank == 13 { 2 } else { 0 }
+}
+
+// Which of a file's values it is a part of, where a file tells of it.
+fn slot_of(x: RegSpec) -> u8
+    ensures { λ r. ⌜ (r ≡ toldSlot x) × (r < fileSlots) ⌝ }
+{
+    if x.bank == 13 {
+        return 17 + x.number % 2;
+    }
+    if 4 < x.bank {
+        return 16;
+    }
+    if x.bank == 4 {
+        x.number % 4
     } else {
-        Value::Unknown
+        x.number % 16
     }
 }
 
-// The whole of a value: a word has 64 bits.
-fn whole(v: Value) -> Value
-    ensures { λ r. ⌜ r ≡ after v (λ w. Known (w / 2 ^ 0 % 2 ^ 64)) ⌝ }
+// Which part of it: Q and RIP are the whole; ah, ch, dh and bh the second byte.
+fn part_of(x: RegSpec, word: u64) -> u64
+    ensures { λ r. ⌜ (r ≡ toldPart x word) × (word < 2 ^ 64) ⌝ }
 {
-    match v {
-        Value::Known(w) => Value::Known(w),
-        Value::Unknown => Value::Unknown,
+    if x.bank == 4 {
+        return byte_of(x.number, word);
+    }
+    if x.bank == 3 {
+        return word % 0x100;
+    }
+    if x.bank == 2 {
+        return word % 0x1_0000;
+    }
+    if x.bank == 1 {
+        return word % 0x1_0000_0000;
+    }
+    if x.bank == 10 {
+        word % 0x1_0000_0000
+    } else {
+        word
     }
 }
 
-// The part of a value that lies above `below` and is less than `size`.
-fn part(v: Value, below: u64, size: u64) -> Value
-    requires { ⌜ (0 < below) × (0 < size) ⌝ }
-    ensures { λ r. ⌜ r ≡ after v (λ w. Known (w / below % size)) ⌝ }
+fn byte_of(number: u8, word: u64) -> u64
+    ensures { λ r. ⌜ r ≡ toldByte number word ⌝ }
 {
-    match v {
-        Value::Known(w) => Value::Known(w / below % size),
-        Value::Unknown => Value::Unknown,
+    if 3 < number {
+        word / 0x100 % 0x100
+    } else {
+        word % 0x100
     }
 }

@@ -1,5 +1,5 @@
-pub mod Events
-pub mod Pieces
-pub mod Shapes
-pub mod Implicits
-pub mod Flags
+pub mod Registers
+pub mod Specs
+pub mod Operands
+pub mod Lists
+pub mod Logs

@@ -1,1 +1,3 @@
-pub mod Touches
+pub mod Parts
+pub mod Implied
+pub mod Whole

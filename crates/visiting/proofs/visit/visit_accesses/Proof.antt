@@ -1,50 +1,53 @@
-use Rattle.visiting.proofs.Calls.{bad-record, bad-file, visited-under}
-use Rattle.registers.specs.Files.{fileOf, isFile}
-use mathlib.Core.Bool.{not}
+use mathlib.Core.Path.{refl, sym, ap, _∙_}
 use denote.Ref.{now}
+use mathlib.Core.Bool.{false, not}
+use Rattle.registers.specs.Files.{fileOf, isFile}
+use Rattle.visiting.proofs.Rooms.{roomy-start, roomy-room, roomy-part, lent-on}
 use borrow.Author.Needs.{needs}
 use Rattle.visiting.proofs.visit.visit_accesses.Statement.{statement}
 use Rattle.visiting.proofs.visit.visit_accesses.Tie as tie
 
-from-bytes-requires : tie.Need-from-bytes-requires
-from-bytes-requires c κs = search needs
+is-roomy-requires : tie.Need-is-roomy-requires
+is-roomy-requires c κs = search needs
 
-returns : tie.Need-returns
-returns c =
-    let a = c .before .before .before .before .before .before .args in
-    bad-record (now (a .b)) (c .before .before .from-bytes .result) (c .before .before .from-bytes .ensures) (now (a .log)) (a .start) (not (isFile (now (a .file)))) (fileOf (now (a .file))) (c .if1 .taken)
+sub-visit-roomy : tie.Need-sub-visit-roomy
+sub-visit-roomy c = roomy-start (c .before .before .before .before .before .args .start) (now (c .before .before .before .before .before .args .log)) (sym (c .before .is-roomy .ensures) ∙ c .if1 .taken)
 
-from-bytes-requires-2 : tie.Need-from-bytes-requires-2
-from-bytes-requires-2 c κs = search needs
+part-visit-roomy-start : tie.Need-part-visit-roomy-start
+part-visit-roomy-start c = roomy-start (c .before .before .before .before .before .args .start) (now (c .before .before .before .before .before .args .log)) (sym (c .before .is-roomy .ensures) ∙ c .if1 .taken)
 
-returns-2 : tie.Need-returns-2
-returns-2 c =
-    let a = c .before .before .before .before .before .before .before .before .args in
-    bad-file (now (a .b)) (now (a .file)) (c .before .before .before .before .from-bytes .result) (c .before .before .before .before .from-bytes .ensures) (c .before .from-bytes2 .result) (c .before .from-bytes2 .ensures) (now (a .log)) (a .start) (c .before .before .if1 .left) (c .if2 .taken)
+part-visit-roomy-end : tie.Need-part-visit-roomy-end
+part-visit-roomy-end c = search needs
 
-fixed-up-requires : tie.Need-fixed-up-requires
-fixed-up-requires c κs = search needs
+visit-roomy-requires : tie.Need-visit-roomy-requires
+visit-roomy-requires c κs = roomy-part (c .before .before .before .before .before .before .args .start) (now (c .before .before .before .before .before .before .args .log)) (sym (c .before .before .is-roomy .ensures) ∙ c .before .if1 .taken)
 
-visit-record-requires : tie.Need-visit-record-requires
-visit-record-requires c κs = search needs
+visit-tight-requires : tie.Need-visit-tight-requires
+visit-tight-requires c κs = search needs
 
 same-length : tie.Need-same-length
 same-length c = search needs
 
-returns-3 : tie.Need-returns-3
-returns-3 c =
-    let a = c .before .before .before .before .before .before .before .before .before .before .before .before .before .before .before .args in
-    rw (c .before .before .before .before .before .before .fixed-up .ensures, visited-under (now (a .b)) (now (a .file)) (c .before .before .before .before .before .before .before .before .before .before .before .from-bytes .result) (c .before .before .before .before .before .before .before .before .before .before .before .from-bytes .ensures) (c .before .before .before .before .before .before .before .before .from-bytes2 .result) (c .before .before .before .before .before .before .before .before .from-bytes2 .ensures) (now (a .log)) (a .start) (c .before .before .before .before .before .before .before .before .before .if1 .left) (c .before .before .before .before .before .before .before .if2 .left)) at (c .before .before .visit-record .ensures)
+returns : tie.Need-returns
+returns c = lent-on (not (isFile (now (c .before .before .before .before .before .before .before .before .before .args .file)))) (now (c .before .before .before .before .before .before .before .before .before .args .b)) (fileOf (now (c .before .before .before .before .before .before .before .before .before .args .file))) (now (c .before .before .before .before .before .before .before .before .before .args .log)) (c .before .before .before .before .before .before .before .before .before .args .start) (roomy-start (c .before .before .before .before .before .before .before .before .before .args .start) (now (c .before .before .before .before .before .before .before .before .before .args .log)) (sym (c .before .before .before .before .before .is-roomy .ensures) ∙ c .before .before .before .before .if1 .taken)) (roomy-room (c .before .before .before .before .before .before .before .before .before .args .start) (now (c .before .before .before .before .before .before .before .before .before .args .log)) (sym (c .before .before .before .before .before .is-roomy .ensures) ∙ c .before .before .before .before .if1 .taken)) (c .before .before .visit-roomy .ensures)
+
+same-length-2 : tie.Need-same-length-2
+same-length-2 c = search needs
+
+returns-2 : tie.Need-returns-2
+returns-2 c = search needs
 
 pub visit-accesses-spec : {M : Type 1} → statement M
 visit-accesses-spec =
     tie.close
     (tie.spec
-    from-bytes-requires
-    returns
-    from-bytes-requires-2
-    returns-2
-    fixed-up-requires
-    visit-record-requires
+    is-roomy-requires
+    sub-visit-roomy
+    part-visit-roomy-start
+    part-visit-roomy-end
+    visit-roomy-requires
+    visit-tight-requires
     same-length
-    returns-3)
+    returns
+    same-length-2
+    returns-2)
