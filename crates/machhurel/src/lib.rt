@@ -1,5 +1,4 @@
-// What users call: every call takes bytes and answers one number, whose bits specs/Answers.antt names. No call requires anything.
-mod bits; // bits.rt: which bits of an answer hold what
+// What users call: every call takes bytes and answers one number, whose bits crate answers names. No call requires anything.
 mod calls; // calls.rt: the calls on a record and on a log, exported as C
 mod watches; // watches.rt: the calls on a watch, whose words a C caller keeps
 

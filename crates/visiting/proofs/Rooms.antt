@@ -1,17 +1,17 @@
 -- The same visit at another place: in the part of a buffer that is lent, and aside. Assumes nothing.
-use Prim.Native.Nat.{ℕ, _+_, _-_, _≤_, _<_, zero-le}
+use Prim.Native.Nat.{ℕ, _+_, _≤_, zero-le}
 use native.Mathlib.Nat.{zero-add, le-refl}
 use native.Mathlib.Omega.{arith}
 use mathlib.Core.Path.{_≡_, refl, sym, ap, subst, _∙_}
-use mathlib.Core.Bool.{Bool, true, false, cond, not, _&&_}
+use mathlib.Core.Bool.{Bool, true, false, cond, not}
 use mathlib.Core.List.{List, [], _∷_, _++_, append-assoc}
-use lib.Dec.{eqb, leb, lit≤}
+use lib.Dec.{eqb, lit≤}
 use lib.ListN.{length, take, drop, length-take, take-append-drop}
 use lib.Seq.{drop-drop, take-all, take-at}
-use borrow.Author.Tests.{lt-ltb, le-ltb, ne-eqb, eqb-true, eqb-false, leb-true}
-use Rattle.laws.proofs.Choice.{and-left, and-right}
+use borrow.Author.Tests.{ne-eqb, eqb-true, eqb-false}
+use Rattle.laws.proofs.Room.{starts-inside, has-left, has-room, room-for-less}
 use Rattle.laws.specs.Tests.{firstOf}
-use Rattle.laws.specs.Lending.{splice}
+use Rattle.laws.specs.Lending.{lacksRoom, splice}
 use Rattle.laws.proofs.Lending.{part, back, part-is, back-is, part-length}
 use Rattle.registers.specs.declared.RegisterFile.{RegisterFile}
 use Rattle.record.specs.Records.{isRecord, recordOf, outside}
@@ -22,11 +22,11 @@ use Rattle.definition.specs.Logs.{eventsOf, bytesOf}
 use Rattle.definition.specs.Refusals.{nameless, sizeless, noRoom}
 use Rattle.definition.specs.Visits.{fixedRecord, logOf, refusalOf, outcome, visitBy}
 use Rattle.definition.specs.declared.Answer.{Answer}
-use Rattle.definition.specs.declared.Answer.the-variants.{Done, Refused, Complex}
+use Rattle.definition.specs.declared.Answer.the-variants.{Done, Refused, Complex, Short}
 use Rattle.definition.proofs.Bounds.{log-bytes}
 use Rattle.definition.proofs.Outcomes.{first-front, first-back}
 use Rattle.laws.proofs.Every.{first-zero}
-use Rattle.visiting.specs.Laying.{Short, laidOut}
+use Rattle.visiting.specs.Laying.{Within, laidOut}
 
 -- bytes laid over the part from a start on, and over a buffer from it on
 pub spliced-part : (buffer : List ℕ) (start : ℕ) (bytes : List ℕ) → back buffer start (splice (part buffer start) 0 bytes) ≡ splice buffer start bytes
@@ -40,10 +40,12 @@ spliced-part buffer start bytes =
 pub same-part : (buffer : List ℕ) (start : ℕ) → back buffer start (part buffer start) ≡ buffer
 same-part buffer start = back-is buffer start (part buffer start) ∙ rw (part-is buffer start) (take-append-drop start buffer)
 
--- room enough
-has-room : (n : ℕ) (buffer : List ℕ) (start : ℕ) → start ≤ length buffer → n ≤ length buffer - start → noRoom n buffer start ≡ false
-unfolding noRoom
-has-room n buffer start s h = rw (le-ltb (length buffer) start s, le-ltb (length buffer - start) n h)
+-- room from 0 on, and in the part from a start on
+from-0 : (n : ℕ) (buffer : List ℕ) → n ≤ length buffer → lacksRoom n 0 (length buffer) ≡ false
+from-0 n buffer h = has-room n 0 (length buffer) zero-le (omega arith)
+
+pub has-lent : {n : ℕ} (start : ℕ) (buffer : List ℕ) → lacksRoom n start (length buffer) ≡ false → n ≤ length (part buffer start)
+has-lent {n} start buffer h = rw (part-length buffer start) (has-left n start (length buffer) h)
 
 -- a last test that does not hold changes nothing
 no-last : (ts : List (Bool × ℕ)) → firstOf (ts ++ ((false, 7) ∷ [])) ≡ firstOf ts
@@ -77,8 +79,9 @@ module _ (bad : Bool) (b : List ℕ) (f : RegisterFile) where
   unfolding refusalOf
   number-is buffer start = refl
 
-  enough : (buffer : List ℕ) (start : ℕ) → start ≤ length buffer → mostBytes ≤ length buffer - start → refusalOf bad b f buffer start ≡ byLast false
-  enough buffer start s h = number-is buffer start ∙ ap byLast (has-room (length bytes) buffer start s (omega (arith, at-most)))
+  enough : (buffer : List ℕ) (start : ℕ) → lacksRoom mostBytes start (length buffer) ≡ false → refusalOf bad b f buffer start ≡ byLast false
+  unfolding noRoom
+  enough buffer start h = number-is buffer start ∙ ap byLast (room-for-less mostBytes (length bytes) start (length buffer) at-most h)
 
   -- in the part from a start on
   shifted :
@@ -86,22 +89,23 @@ module _ (bad : Bool) (b : List ℕ) (f : RegisterFile) where
       → _≡_ {A = Answer × List ℕ} (r, ys) (outcome number opcode bytes (part buffer start) 0)
       → _≡_ {A = Answer × List ℕ} (r, back buffer start ys) (outcome number opcode bytes buffer start)
   unfolding outcome
-  shifted number opcode buffer start e = by (eqb number 0) (eqb number 4) e
+  shifted number opcode buffer start e = by (eqb number 0) (eqb number 4) (eqb number 7) e
     where
-      by : (s t : Bool) {r : Answer} {ys : List ℕ}
-          → _≡_ {A = Answer × List ℕ} (r, ys) (cond s (Done (length bytes), splice (part buffer start) 0 bytes) (cond t (Complex opcode, part buffer start) (Refused number, part buffer start)))
-          → _≡_ {A = Answer × List ℕ} (r, back buffer start ys) (cond s (Done (length bytes), splice buffer start bytes) (cond t (Complex opcode, buffer) (Refused number, buffer)))
-      by true t e = ap (λ (v : Answer × List ℕ). (v .0, back buffer start (v .1))) e ∙ rw (spliced-part buffer start bytes)
-      by false true e = ap (λ (v : Answer × List ℕ). (v .0, back buffer start (v .1))) e ∙ rw (same-part buffer start)
-      by false false e = ap (λ (v : Answer × List ℕ). (v .0, back buffer start (v .1))) e ∙ rw (same-part buffer start)
+      by : (s t u : Bool) {r : Answer} {ys : List ℕ}
+          → _≡_ {A = Answer × List ℕ} (r, ys) (cond s (Done (length bytes), splice (part buffer start) 0 bytes) (cond t (Complex opcode, part buffer start) (cond u (Short (length bytes), part buffer start) (Refused number, part buffer start))))
+          → _≡_ {A = Answer × List ℕ} (r, back buffer start ys) (cond s (Done (length bytes), splice buffer start bytes) (cond t (Complex opcode, buffer) (cond u (Short (length bytes), buffer) (Refused number, buffer))))
+      by true t u e = ap (λ (v : Answer × List ℕ). (v .0, back buffer start (v .1))) e ∙ rw (spliced-part buffer start bytes)
+      by false true u e = ap (λ (v : Answer × List ℕ). (v .0, back buffer start (v .1))) e ∙ rw (same-part buffer start)
+      by false false true e = ap (λ (v : Answer × List ℕ). (v .0, back buffer start (v .1))) e ∙ rw (same-part buffer start)
+      by false false false e = ap (λ (v : Answer × List ℕ). (v .0, back buffer start (v .1))) e ∙ rw (same-part buffer start)
 
   pub lent-on :
-      (buffer : List ℕ) (start : ℕ) {r : Answer} {ys : List ℕ} → start ≤ length buffer → mostBytes ≤ length buffer - start
+      (buffer : List ℕ) (start : ℕ) {r : Answer} {ys : List ℕ} → lacksRoom mostBytes start (length buffer) ≡ false
       → (r, ys) ≡ visitBy bad b f (part buffer start) 0 → (r, back buffer start ys) ≡ visitBy bad b f buffer start
   unfolding visitBy
-  lent-on buffer start s h e =
-      rw (enough buffer start s h)
-      (shifted (byLast false) (recordOf b .opcode) buffer start (rw (enough (part buffer start) 0 zero-le (omega (arith, part-length buffer start))) at e))
+  lent-on buffer start h e =
+      rw (enough buffer start h)
+      (shifted (byLast false) (recordOf b .opcode) buffer start (rw (enough (part buffer start) 0 (from-0 mostBytes (part buffer start) (has-lent start buffer h))) at e))
 
   -- aside: the last test decides alone where the others pass
   last-decides : (t : Bool) → byLast false ≡ 0 → byLast t ≡ cond t 7 0
@@ -115,7 +119,7 @@ module _ (bad : Bool) (b : List ℕ) (f : RegisterFile) where
 
   laid-done :
       (opcode : ℕ) (aside buffer : List ℕ) (start : ℕ) (t : Bool)
-      → cond t (Refused 7, buffer) (Done (length bytes), splice buffer start (take (length bytes) (splice aside 0 bytes))) ≡ outcome (cond t 7 0) opcode bytes buffer start
+      → cond t (Short (length bytes), buffer) (Done (length bytes), splice buffer start (take (length bytes) (splice aside 0 bytes))) ≡ outcome (cond t 7 0) opcode bytes buffer start
   unfolding outcome splice
   laid-done opcode aside buffer start true = refl
   laid-done opcode aside buffer start false = rw (take-at bytes (drop (0 + length bytes) aside) (length bytes) refl)
@@ -125,13 +129,14 @@ module _ (bad : Bool) (b : List ℕ) (f : RegisterFile) where
       → (r, ys) ≡ outcome number opcode bytes aside 0 → laidOut r ys buffer start ≡ outcome number opcode bytes buffer start
   unfolding outcome laidOut
   laid-refused number opcode aside buffer start ne e =
-      ap (λ (v : Answer × List ℕ). laidOut (v .0) (v .1) buffer start) e ∙ rw (ne-eqb number 0 ne) (by (eqb number 4))
+      ap (λ (v : Answer × List ℕ). laidOut (v .0) (v .1) buffer start) e ∙ rw (ne-eqb number 0 ne) (by (eqb number 4) (eqb number 7))
     where
-      by : (t : Bool)
-          → laidOut (cond {A = Answer × List ℕ} t (Complex opcode, aside) (Refused number, aside) .0) (cond {A = Answer × List ℕ} t (Complex opcode, aside) (Refused number, aside) .1) buffer start
-          ≡ cond t (Complex opcode, buffer) (Refused number, buffer)
-      by true = refl
-      by false = refl
+      by : (t u : Bool)
+          → laidOut (cond {A = Answer × List ℕ} t (Complex opcode, aside) (cond u (Short (length bytes), aside) (Refused number, aside)) .0) (cond {A = Answer × List ℕ} t (Complex opcode, aside) (cond u (Short (length bytes), aside) (Refused number, aside)) .1) buffer start
+          ≡ cond t (Complex opcode, buffer) (cond u (Short (length bytes), buffer) (Refused number, buffer))
+      by true u = refl
+      by false true = refl
+      by false false = refl
 
   done :
       (opcode : ℕ) (aside buffer : List ℕ) (start : ℕ)
@@ -162,32 +167,23 @@ module _ (bad : Bool) (b : List ℕ) (f : RegisterFile) where
       → laidOut r ys buffer start ≡ visitBy bad b f buffer start
   unfolding visitBy
   laid-is aside buffer start h e =
-      rw (number-is buffer start) (laid (refusalOf bad b f aside 0) (recordOf b .opcode) aside buffer start (enough aside 0 zero-le (omega arith)) e)
+      rw (number-is buffer start) (laid (refusalOf bad b f aside 0) (recordOf b .opcode) aside buffer start (enough aside 0 (from-0 mostBytes aside h)) e)
 
   -- and no more is counted than aside has room for
-  short : (number opcode : ℕ) (aside : List ℕ) → Short (outcome number opcode bytes aside 0 .0) mostBytes
+  within : (number opcode : ℕ) (aside : List ℕ) → Within (outcome number opcode bytes aside 0 .0) mostBytes
   unfolding outcome
-  short number opcode aside = by (eqb number 0) (eqb number 4)
+  within number opcode aside = by (eqb number 0) (eqb number 4) (eqb number 7)
     where
-      by : (s t : Bool) → Short (cond {A = Answer × List ℕ} s (Done (length bytes), splice aside 0 bytes) (cond t (Complex opcode, aside) (Refused number, aside)) .0) mostBytes
-      by true t = at-most
-      by false true = tt
-      by false false = tt
+      by : (s t u : Bool)
+          → Within (cond {A = Answer × List ℕ} s (Done (length bytes), splice aside 0 bytes) (cond t (Complex opcode, aside) (cond u (Short (length bytes), aside) (Refused number, aside))) .0) mostBytes
+      by true t u = at-most
+      by false true u = tt
+      by false false true = tt
+      by false false false = tt
 
-  pub short-is : (aside : List ℕ) {r : Answer} {ys : List ℕ} → (r, ys) ≡ visitBy bad b f aside 0 → Short r mostBytes
+  pub within-is : (aside : List ℕ) {r : Answer} {ys : List ℕ} → (r, ys) ≡ visitBy bad b f aside 0 → Within r mostBytes
   unfolding visitBy
-  short-is aside e = subst (λ (v : Answer × List ℕ). Short (v .0) mostBytes) (sym e) (short (refusalOf bad b f aside 0) (recordOf b .opcode) aside)
-
--- what the test of the room says
-module _ (start : ℕ) (buffer : List ℕ) (e : (leb start (length buffer) && leb 177 (length buffer - start)) ≡ true) where
-  pub roomy-start : start ≤ length buffer
-  roomy-start = leb-true start (length buffer) (and-left (leb start (length buffer)) (leb 177 (length buffer - start)) e)
-
-  pub roomy-room : mostBytes ≤ length buffer - start
-  roomy-room = leb-true 177 (length buffer - start) (and-right (leb start (length buffer)) (leb 177 (length buffer - start)) e)
-
-  pub roomy-part : mostBytes ≤ length (part buffer start)
-  roomy-part = rw (part-length buffer start) roomy-room
+  within-is aside e = subst (λ (v : Answer × List ℕ). Within (v .0) mostBytes) (sym e) (within (refusalOf bad b f aside 0) (recordOf b .opcode) aside)
 
 over-part : (bs old : List ℕ) → take (length bs) bs ++ drop (length bs) old ≡ splice old 0 bs
 unfolding splice
@@ -198,22 +194,18 @@ took n l h = simp length-take (omega arith)
 
 -- what was written aside has no room, or is laid
 module _ {answer : Answer} {n : ℕ} (e : answer ≡ Done n) (aside buffer : List ℕ) (start : ℕ) where
-  pub past-end : length buffer < start → _≡_ {A = Answer × List ℕ} (Refused 7, buffer) (laidOut answer aside buffer start)
+  pub too-short : lacksRoom n start (length buffer) ≡ true → _≡_ {A = Answer × List ℕ} (Short n, buffer) (laidOut answer aside buffer start)
   unfolding laidOut noRoom
-  past-end h = rw (e, lt-ltb (length buffer) start h)
-
-  pub too-short : start ≤ length buffer → length buffer - start < n → _≡_ {A = Answer × List ℕ} (Refused 7, buffer) (laidOut answer aside buffer start)
-  unfolding laidOut noRoom
-  too-short s h = rw (e, le-ltb (length buffer) start s, lt-ltb (length buffer - start) n h)
+  too-short h = rw (e, h)
 
   same : {a b : List ℕ} → a ≡ b → _≡_ {A = Answer × List ℕ} (Done n, a) (Done n, b)
   same p = rw p
 
   pub laid-here :
-      {ys : List ℕ} → start ≤ length buffer → n ≤ length buffer - start
+      {ys : List ℕ} → lacksRoom n start (length buffer) ≡ false
       → ys ≡ take (length (take n aside)) (take n aside) ++ drop (length (take n aside)) (part buffer start)
       → _≡_ {A = Answer × List ℕ} (Done n, back buffer start ys) (laidOut answer aside buffer start)
-  unfolding laidOut
-  laid-here {ys} s h q =
-      rw (e, has-room n buffer start s h)
+  unfolding laidOut noRoom
+  laid-here {ys} h q =
+      rw (e, h)
       (same (ap (back buffer start) (q ∙ over-part (take n aside) (part buffer start)) ∙ spliced-part buffer start (take n aside)))

@@ -5,18 +5,17 @@ use refusals::is_nameless;
 use refusals::is_sizeless;
 use registers::RegisterFile;
 ghost use mathlib.Core.Path.{_≡_};
-ghost use mathlib.Core.Bool.{false, _&&_};
-ghost use Prim.Native.Nat.{_≤_, _-_};
-ghost use lib.Dec.{leb};
+ghost use mathlib.Core.Bool.{false};
+ghost use Prim.Native.Nat.{_≤_};
 ghost use lib.ListN.{length};
 ghost use Rattle.definition.specs.Behaviors.{complex};
 ghost use Rattle.definition.specs.Refusals.{nameless, sizeless};
 ghost use Rattle.definition.specs.Visits.{visitUnder, visitOf};
 ghost use Rattle.visiting.specs.Records.{firstRefusal, visitRecord};
-ghost use Rattle.visiting.specs.Laying.{Short, laidOut};
+ghost use Rattle.visiting.specs.Laying.{Within, laidOut};
 
 // No log is longer.
-const MOST_BYTES: usize = 177;
+pub const MOST_BYTES: usize = 177;
 
 // Refusals 4, 5 and 6 of a record after fix-ups, in their order.
 fn refusal_of(x: Record) -> u8
@@ -88,24 +87,22 @@ fn visit_roomy_under(b: &[u8], f: RegisterFile, log: &mut [u8]) -> Answer
     visit_record(fixups::fixed_up(read), f, log)
 }
 
-// What was written aside, laid into its place where it has room.
+// What was written aside, laid into its place where it has room. Where it has none, the answer says how much it needs.
 fn lay(answer: Answer, aside: &[u8], log: &mut [u8], start: usize) -> Answer
-    requires { ⌜ Short answer (length (now aside)) ⌝ }
+    requires { ⌜ Within answer (length (now aside)) ⌝ }
     ensures { λ r. ⌜ (r, now (log .exit)) ≡ laidOut answer (now (aside .entry)) (now (log .entry)) start ⌝ }
 {
     match answer {
         Answer::Done(n) => {
-            if log.len() < start {
-                return Answer::Refused(7);
-            }
-            if log.len() - start < n {
-                return Answer::Refused(7);
+            if laws::lacks_room(n, start, log.len()) {
+                return Answer::Short(n);
             }
             bytes::copy(&aside[..n], &mut log[start..]);
             Answer::Done(n)
         }
         Answer::Refused(number) => Answer::Refused(number),
         Answer::Complex(opcode) => Answer::Complex(opcode),
+        Answer::Short(n) => Answer::Short(n),
     }
 }
 
@@ -126,29 +123,23 @@ fn visit_tight_under(b: &[u8], f: RegisterFile, log: &mut [u8], start: usize) ->
     lay(answer, &aside, log, start)
 }
 
-fn is_roomy(start: usize, end: usize) -> bool
-    ensures { λ r. ⌜ r ≡ leb start end && leb 177 (end - start) ⌝ }
-{
-    start <= end && MOST_BYTES <= end - start
-}
-
 // Under a register file that is parsed already.
 pub fn visit_under(b: &[u8], f: RegisterFile, log: &mut [u8], start: usize) -> Answer
     ensures { λ r. ⌜ (r, now (log .exit)) ≡ visitUnder (now (b .entry)) f (now (log .entry)) start ⌝ }
 {
-    if is_roomy(start, log.len()) {
-        visit_roomy_under(b, f, &mut log[start..])
-    } else {
+    if laws::lacks_room(MOST_BYTES, start, log.len()) {
         visit_tight_under(b, f, log, start)
+    } else {
+        visit_roomy_under(b, f, &mut log[start..])
     }
 }
 
 pub fn visit_accesses(b: &[u8], file: &[u8], log: &mut [u8], start: usize) -> Answer
     ensures { λ r. ⌜ (r, now (log .exit)) ≡ visitOf (now (b .entry)) (now (file .entry)) (now (log .entry)) start ⌝ }
 {
-    if is_roomy(start, log.len()) {
-        visit_roomy(b, file, &mut log[start..])
-    } else {
+    if laws::lacks_room(MOST_BYTES, start, log.len()) {
         visit_tight(b, file, log, start)
+    } else {
+        visit_roomy(b, file, &mut log[start..])
     }
 }

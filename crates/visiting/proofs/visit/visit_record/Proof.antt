@@ -1,5 +1,5 @@
 use denote.Ref.{now}
-use Rattle.visiting.proofs.Visits.{refusal-is, fits, done, is-complex, is-refused}
+use Rattle.visiting.proofs.Visits.{fits, done, is-complex, is-refused}
 use borrow.Author.Needs.{needs}
 use Rattle.visiting.proofs.visit.visit_record.Statement.{statement}
 use Rattle.visiting.proofs.visit.visit_record.Tie as tie
@@ -17,13 +17,13 @@ same-length : tie.Need-same-length
 same-length c = search needs
 
 returns : tie.Need-returns
-returns c = done (c .before .before .before .before .before .before .before .before .args .fixed) (c .before .before .before .before .before .before .before .before .args .f) (now (c .before .before .before .before .before .before .before .before .args .log)) (c .before .before .before .before .before .before .before .before .pre) (refusal-is (c .before .before .before .before .before .before .before .before .args .fixed) (c .before .before .before .before .before .before .before .before .args .f) (now (c .before .before .before .before .before .before .before .before .args .log)) (c .before .before .before .before .before .before .before .before .pre) (c .before .before .before .before .before .before .refusal-of .ensures)) (c .before .before .before .before .before .match .keys1) (rw (c .before .before .before .before .resolve .ensures) at (c .before .before .put-log .ensures))
+returns c = done (c .before .before .before .before .before .before .before .before .args .fixed) (c .before .before .before .before .before .before .before .before .args .f) (now (c .before .before .before .before .before .before .before .before .args .log)) (c .before .before .before .before .before .before .before .before .pre) (c .before .before .before .before .before .before .refusal-of .ensures) (c .before .before .before .before .before .match .keys1) (rw (c .before .before .before .before .resolve .ensures) at (c .before .before .put-log .ensures))
 
 returns-2 : tie.Need-returns-2
-returns-2 c = is-complex (c .before .before .before .args .fixed) (c .before .before .before .args .f) (now (c .before .before .before .args .log)) (c .before .before .before .pre) (refusal-is (c .before .before .before .args .fixed) (c .before .before .before .args .f) (now (c .before .before .before .args .log)) (c .before .before .before .pre) (c .before .refusal-of .ensures)) (c .match .keys2)
+returns-2 c = is-complex (c .before .before .before .args .fixed) (c .before .before .before .args .f) (now (c .before .before .before .args .log)) (c .before .before .before .pre) (c .before .refusal-of .ensures) (c .match .keys2)
 
 returns-3 : tie.Need-returns-3
-returns-3 c = is-refused (c .before .before .before .args .fixed) (c .before .before .before .args .f) (now (c .before .before .before .args .log)) (c .before .before .before .pre) (refusal-is (c .before .before .before .args .fixed) (c .before .before .before .args .f) (now (c .before .before .before .args .log)) (c .before .before .before .pre) (c .before .refusal-of .ensures)) (c .match .rest .0 .1) (c .match .rest .1)
+returns-3 c = is-refused (c .before .before .before .args .fixed) (c .before .before .before .args .f) (now (c .before .before .before .args .log)) (c .before .before .before .pre) (c .before .refusal-of .ensures) (c .match .rest .0 .1) (c .match .rest .1)
 
 pub visit-record-spec : {M : Type 1} → statement M
 visit-record-spec =

@@ -6,7 +6,7 @@ use Rattle.registers.specs.Files.{fileOf, isFile}
 use Rattle.registers.proofs.Answers.{file-length}
 use Rattle.record.proofs.Laws.{forty, passed}
 use Rattle.visiting.proofs.Calls.{bad-record, bad-file, visited-file}
-use Rattle.visiting.proofs.Visits.{refusal-is, fits, done, is-complex, is-refused}
+use Rattle.visiting.proofs.Visits.{fits, done, is-complex, is-refused}
 use Rattle.visiting.proofs.visit.visit_roomy.Statement.{statement}
 use Rattle.visiting.proofs.visit.visit_roomy.Tie as tie
 
@@ -44,13 +44,13 @@ same-length : tie.Need-same-length
 same-length c = search needs
 
 returns-3 : tie.Need-returns-3
-returns-3 c = done (c .before .before .before .before .before .before .before .before .fixed-up .result) (c .before .before .before .before .before .parse2 .result) (now (c .before .before .before .before .before .before .before .before .before .before .before .before .before .before .before .before .before .args .log)) (c .before .before .before .before .before .before .before .before .before .before .before .before .before .before .before .before .before .pre) (refusal-is (c .before .before .before .before .before .before .before .before .fixed-up .result) (c .before .before .before .before .before .parse2 .result) (now (c .before .before .before .before .before .before .before .before .before .before .before .before .before .before .before .before .before .args .log)) (c .before .before .before .before .before .before .before .before .before .before .before .before .before .before .before .before .before .pre) (c .before .before .before .before .before .before .before .refusal-of3 .ensures)) (c .before .before .before .before .before .before .match .keys1) (rw (c .before .before .before .before .resolve .ensures) at (c .before .before .put-log .ensures)) ∙ rw (c .before .before .before .before .before .before .before .before .fixed-up .ensures) (visited-file (now (c .before .before .before .before .before .before .before .before .before .before .before .before .before .before .before .before .before .args .b)) (now (c .before .before .before .before .before .before .before .before .before .before .before .before .before .before .before .before .before .args .log)) 0 (now (c .before .before .before .before .before .before .before .before .before .before .before .before .before .before .before .before .before .args .file)) (c .before .before .before .before .before .before .before .before .before .before .before .before .before .refusal-of .ensures) (c .before .before .before .before .before .before .before .before .before .before .before .before .if1 .left) (c .before .before .before .before .before .before .before .before .before .before .before .refusal-of2 .ensures) (c .before .before .before .before .before .before .before .before .before .before .if2 .left) (c .before .before .before .before .before .before .before .before .before .parse .ensures) (c .before .before .before .before .before .parse2 .ensures))
+returns-3 c = done (c .before .before .before .before .before .before .before .before .fixed-up .result) (c .before .before .before .before .before .parse2 .result) (now (c .before .before .before .before .before .before .before .before .before .before .before .before .before .before .before .before .before .args .log)) (c .before .before .before .before .before .before .before .before .before .before .before .before .before .before .before .before .before .pre) (c .before .before .before .before .before .before .before .refusal-of3 .ensures) (c .before .before .before .before .before .before .match .keys1) (rw (c .before .before .before .before .resolve .ensures) at (c .before .before .put-log .ensures)) ∙ rw (c .before .before .before .before .before .before .before .before .fixed-up .ensures) (visited-file (now (c .before .before .before .before .before .before .before .before .before .before .before .before .before .before .before .before .before .args .b)) (now (c .before .before .before .before .before .before .before .before .before .before .before .before .before .before .before .before .before .args .log)) 0 (now (c .before .before .before .before .before .before .before .before .before .before .before .before .before .before .before .before .before .args .file)) (c .before .before .before .before .before .before .before .before .before .before .before .before .before .refusal-of .ensures) (c .before .before .before .before .before .before .before .before .before .before .before .before .if1 .left) (c .before .before .before .before .before .before .before .before .before .before .before .refusal-of2 .ensures) (c .before .before .before .before .before .before .before .before .before .before .if2 .left) (c .before .before .before .before .before .before .before .before .before .parse .ensures) (c .before .before .before .before .before .parse2 .ensures))
 
 returns-4 : tie.Need-returns-4
-returns-4 c = is-complex (c .before .before .fixed-up .result) (fileOf (now (c .before .before .before .before .before .before .before .before .before .before .before .args .file))) (now (c .before .before .before .before .before .before .before .before .before .before .before .args .log)) (c .before .before .before .before .before .before .before .before .before .before .before .pre) (refusal-is (c .before .before .fixed-up .result) (fileOf (now (c .before .before .before .before .before .before .before .before .before .before .before .args .file))) (now (c .before .before .before .before .before .before .before .before .before .before .before .args .log)) (c .before .before .before .before .before .before .before .before .before .before .before .pre) (c .before .refusal-of3 .ensures)) (c .match .keys2) ∙ rw (c .before .before .fixed-up .ensures) (visited-file (now (c .before .before .before .before .before .before .before .before .before .before .before .args .b)) (now (c .before .before .before .before .before .before .before .before .before .before .before .args .log)) 0 (now (c .before .before .before .before .before .before .before .before .before .before .before .args .file)) (c .before .before .before .before .before .before .before .refusal-of .ensures) (c .before .before .before .before .before .before .if1 .left) (c .before .before .before .before .before .refusal-of2 .ensures) (c .before .before .before .before .if2 .left) (c .before .before .before .parse .ensures) refl)
+returns-4 c = is-complex (c .before .before .fixed-up .result) (fileOf (now (c .before .before .before .before .before .before .before .before .before .before .before .args .file))) (now (c .before .before .before .before .before .before .before .before .before .before .before .args .log)) (c .before .before .before .before .before .before .before .before .before .before .before .pre) (c .before .refusal-of3 .ensures) (c .match .keys2) ∙ rw (c .before .before .fixed-up .ensures) (visited-file (now (c .before .before .before .before .before .before .before .before .before .before .before .args .b)) (now (c .before .before .before .before .before .before .before .before .before .before .before .args .log)) 0 (now (c .before .before .before .before .before .before .before .before .before .before .before .args .file)) (c .before .before .before .before .before .before .before .refusal-of .ensures) (c .before .before .before .before .before .before .if1 .left) (c .before .before .before .before .before .refusal-of2 .ensures) (c .before .before .before .before .if2 .left) (c .before .before .before .parse .ensures) refl)
 
 returns-5 : tie.Need-returns-5
-returns-5 c = is-refused (c .before .before .fixed-up .result) (fileOf (now (c .before .before .before .before .before .before .before .before .before .before .before .args .file))) (now (c .before .before .before .before .before .before .before .before .before .before .before .args .log)) (c .before .before .before .before .before .before .before .before .before .before .before .pre) (refusal-is (c .before .before .fixed-up .result) (fileOf (now (c .before .before .before .before .before .before .before .before .before .before .before .args .file))) (now (c .before .before .before .before .before .before .before .before .before .before .before .args .log)) (c .before .before .before .before .before .before .before .before .before .before .before .pre) (c .before .refusal-of3 .ensures)) (c .match .rest .0 .1) (c .match .rest .1) ∙ rw (c .before .before .fixed-up .ensures) (visited-file (now (c .before .before .before .before .before .before .before .before .before .before .before .args .b)) (now (c .before .before .before .before .before .before .before .before .before .before .before .args .log)) 0 (now (c .before .before .before .before .before .before .before .before .before .before .before .args .file)) (c .before .before .before .before .before .before .before .refusal-of .ensures) (c .before .before .before .before .before .before .if1 .left) (c .before .before .before .before .before .refusal-of2 .ensures) (c .before .before .before .before .if2 .left) (c .before .before .before .parse .ensures) refl)
+returns-5 c = is-refused (c .before .before .fixed-up .result) (fileOf (now (c .before .before .before .before .before .before .before .before .before .before .before .args .file))) (now (c .before .before .before .before .before .before .before .before .before .before .before .args .log)) (c .before .before .before .before .before .before .before .before .before .before .before .pre) (c .before .refusal-of3 .ensures) (c .match .rest .0 .1) (c .match .rest .1) ∙ rw (c .before .before .fixed-up .ensures) (visited-file (now (c .before .before .before .before .before .before .before .before .before .before .before .args .b)) (now (c .before .before .before .before .before .before .before .before .before .before .before .args .log)) 0 (now (c .before .before .before .before .before .before .before .before .before .before .before .args .file)) (c .before .before .before .before .before .before .before .refusal-of .ensures) (c .before .before .before .before .before .before .if1 .left) (c .before .before .before .before .before .refusal-of2 .ensures) (c .before .before .before .before .if2 .left) (c .before .before .before .parse .ensures) refl)
 
 pub visit-roomy-spec : {M : Type 1} → statement M
 visit-roomy-spec =

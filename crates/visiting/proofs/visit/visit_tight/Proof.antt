@@ -4,7 +4,7 @@ use lib.Dec.{lit≤}
 use lib.ListN.{replicate}
 use mathlib.Core.Bool.{false, not}
 use Rattle.registers.specs.Files.{fileOf, isFile}
-use Rattle.visiting.proofs.Rooms.{short-is, laid-is}
+use Rattle.visiting.proofs.Rooms.{within-is, laid-is}
 use borrow.Author.Needs.{needs}
 use Rattle.visiting.proofs.visit.visit_tight.Statement.{statement}
 use Rattle.visiting.proofs.visit.visit_tight.Tie as tie
@@ -19,7 +19,7 @@ slice-aggregate-lay : tie.Need-slice-aggregate-lay
 slice-aggregate-lay c = search needs
 
 lay-requires : tie.Need-lay-requires
-lay-requires c κs = rw (c .before .before .before .visit-roomy .kept .1 .1 .0) (short-is (not (isFile (now (c .before .before .before .before .before .before .before .before .args .file)))) (now (c .before .before .before .before .before .before .before .before .args .b)) (fileOf (now (c .before .before .before .before .before .before .before .before .args .file))) (replicate 177 0) (c .before .before .before .visit-roomy .ensures))
+lay-requires c κs = rw (c .before .before .before .visit-roomy .kept .1 .1 .0) (within-is (not (isFile (now (c .before .before .before .before .before .before .before .before .args .file)))) (now (c .before .before .before .before .before .before .before .before .args .b)) (fileOf (now (c .before .before .before .before .before .before .before .before .args .file))) (replicate 177 0) (c .before .before .before .visit-roomy .ensures))
 
 same-length : tie.Need-same-length
 same-length c = search needs

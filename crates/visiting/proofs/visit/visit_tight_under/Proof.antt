@@ -4,7 +4,7 @@ use lib.Dec.{lit≤}
 use lib.ListN.{replicate}
 use mathlib.Core.Bool.{false, not}
 use Rattle.registers.specs.Files.{fileOf, isFile}
-use Rattle.visiting.proofs.Rooms.{short-is, laid-is}
+use Rattle.visiting.proofs.Rooms.{within-is, laid-is}
 use borrow.Author.Needs.{needs}
 use Rattle.visiting.proofs.visit.visit_tight_under.Statement.{statement}
 use Rattle.visiting.proofs.visit.visit_tight_under.Tie as tie
@@ -19,7 +19,7 @@ slice-aggregate-lay : tie.Need-slice-aggregate-lay
 slice-aggregate-lay c = search needs
 
 lay-requires : tie.Need-lay-requires
-lay-requires c κs = rw (c .before .before .before .visit-roomy-under .kept .1 .1 .0) (short-is false (now (c .before .before .before .before .before .before .before .args .b)) (c .before .before .before .before .before .before .before .args .f) (replicate 177 0) (c .before .before .before .visit-roomy-under .ensures))
+lay-requires c κs = rw (c .before .before .before .visit-roomy-under .kept .1 .1 .0) (within-is false (now (c .before .before .before .before .before .before .before .args .b)) (c .before .before .before .before .before .before .before .args .f) (replicate 177 0) (c .before .before .before .visit-roomy-under .ensures))
 
 same-length : tie.Need-same-length
 same-length c = search needs

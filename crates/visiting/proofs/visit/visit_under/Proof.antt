@@ -1,52 +1,53 @@
-use mathlib.Core.Path.{refl, sym, ap, _∙_}
+use mathlib.Core.Path.{sym, _∙_}
 use denote.Ref.{now}
-use mathlib.Core.Bool.{false, not}
-use Rattle.registers.specs.Files.{fileOf, isFile}
-use Rattle.visiting.proofs.Rooms.{roomy-start, roomy-room, roomy-part, lent-on}
+use lib.ListN.{length}
+use mathlib.Core.Bool.{false}
+use Rattle.laws.proofs.Room.{starts-inside}
+use Rattle.visiting.proofs.Rooms.{has-lent, lent-on}
 use borrow.Author.Needs.{needs}
 use Rattle.visiting.proofs.visit.visit_under.Statement.{statement}
 use Rattle.visiting.proofs.visit.visit_under.Tie as tie
 
-is-roomy-requires : tie.Need-is-roomy-requires
-is-roomy-requires c κs = search needs
+lacks-room-requires : tie.Need-lacks-room-requires
+lacks-room-requires c κs = search needs
+
+visit-tight-under-requires : tie.Need-visit-tight-under-requires
+visit-tight-under-requires c κs = search needs
 
 sub-visit-roomy-under : tie.Need-sub-visit-roomy-under
-sub-visit-roomy-under c = roomy-start (c .before .before .before .before .args .start) (now (c .before .before .before .before .args .log)) (sym (c .before .is-roomy .ensures) ∙ c .if1 .taken)
+sub-visit-roomy-under c = starts-inside 177 (c .before .before .before .before .args .start) (length (now (c .before .before .before .before .args .log))) (sym (c .before .lacks-room .ensures) ∙ c .if1 .left)
 
 part-visit-roomy-under-start : tie.Need-part-visit-roomy-under-start
-part-visit-roomy-under-start c = roomy-start (c .before .before .before .before .args .start) (now (c .before .before .before .before .args .log)) (sym (c .before .is-roomy .ensures) ∙ c .if1 .taken)
+part-visit-roomy-under-start c = starts-inside 177 (c .before .before .before .before .args .start) (length (now (c .before .before .before .before .args .log))) (sym (c .before .lacks-room .ensures) ∙ c .if1 .left)
 
 part-visit-roomy-under-end : tie.Need-part-visit-roomy-under-end
 part-visit-roomy-under-end c = search needs
 
 visit-roomy-under-requires : tie.Need-visit-roomy-under-requires
-visit-roomy-under-requires c κs = roomy-part (c .before .before .before .before .before .args .start) (now (c .before .before .before .before .before .args .log)) (sym (c .before .before .is-roomy .ensures) ∙ c .before .if1 .taken)
-
-visit-tight-under-requires : tie.Need-visit-tight-under-requires
-visit-tight-under-requires c κs = search needs
+visit-roomy-under-requires c κs = has-lent (c .before .before .before .before .before .args .start) (now (c .before .before .before .before .before .args .log)) (sym (c .before .before .lacks-room .ensures) ∙ c .before .if1 .left)
 
 same-length : tie.Need-same-length
 same-length c = search needs
 
 returns : tie.Need-returns
-returns c = lent-on false (now (c .before .before .before .before .before .before .before .before .args .b)) (c .before .before .before .before .before .before .before .before .args .f) (now (c .before .before .before .before .before .before .before .before .args .log)) (c .before .before .before .before .before .before .before .before .args .start) (roomy-start (c .before .before .before .before .before .before .before .before .args .start) (now (c .before .before .before .before .before .before .before .before .args .log)) (sym (c .before .before .before .before .before .is-roomy .ensures) ∙ c .before .before .before .before .if1 .taken)) (roomy-room (c .before .before .before .before .before .before .before .before .args .start) (now (c .before .before .before .before .before .before .before .before .args .log)) (sym (c .before .before .before .before .before .is-roomy .ensures) ∙ c .before .before .before .before .if1 .taken)) (c .before .before .visit-roomy-under .ensures)
+returns c = search needs
 
 same-length-2 : tie.Need-same-length-2
 same-length-2 c = search needs
 
 returns-2 : tie.Need-returns-2
-returns-2 c = search needs
+returns-2 c = lent-on false (now (c .before .before .before .before .before .before .before .before .args .b)) (c .before .before .before .before .before .before .before .before .args .f) (now (c .before .before .before .before .before .before .before .before .args .log)) (c .before .before .before .before .before .before .before .before .args .start) (sym (c .before .before .before .before .before .lacks-room .ensures) ∙ c .before .before .before .before .if1 .left) (c .before .before .visit-roomy-under .ensures)
 
 pub visit-under-spec : {M : Type 1} → statement M
 visit-under-spec =
     tie.close
     (tie.spec
-    is-roomy-requires
+    lacks-room-requires
+    visit-tight-under-requires
     sub-visit-roomy-under
     part-visit-roomy-under-start
     part-visit-roomy-under-end
     visit-roomy-under-requires
-    visit-tight-under-requires
     same-length
     returns
     same-length-2
