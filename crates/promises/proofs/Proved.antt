@@ -22,7 +22,7 @@ use Rattle.promises.proofs.Demands.{by-refines, by-agrees}
 use Rattle.promises.proofs.Rooms.{visit-has-room, listing-has-room, visit-retried, listing-retried}
 use Rattle.promises.proofs.Outcomes.{number-is, refused-is}
 use Rattle.promises.proofs.Whole.{good-back, visit-written, visit-reads, visit-reads-inside, listing-written}
-use Rattle.promises.proofs.Unknown.{unknown-to, unknown-from}
+use Rattle.promises.proofs.Unknown.{unknown-to, unknown-from, based-to, based-from}
 use Rattle.promises.proofs.Opened.{opened}
 use Rattle.promises.proofs.Tables as tables
 use Rattle.promises.proofs.Wrong as wrong
@@ -41,6 +41,9 @@ agreement-decides-under b f g p s h = by-agrees false b f g p s h
 
 pub unknown-exactly : promised.UnknownExactly
 unknown-exactly f a = (unknown-to f a, unknown-from f a)
+
+pub base-unknown-exactly : promised.BaseUnknownExactly
+base-unknown-exactly f s a = (based-to f s a, based-from f s a)
 
 pub log-is-short : promised.LogBytes
 log-is-short f x = log-bytes f x
@@ -104,6 +107,9 @@ bench-holds = tables.bench-holds
 pub beyond-holds : promised.BeyondHolds
 beyond-holds =
     (tables.widening-holds, tables.masking-holds, tables.leas-holds, tables.ordering-holds, tables.addressing-holds, tables.malformed-holds, tables.refusing-holds)
+
+pub segments-hold : promised.SegmentsHold
+segments-hold = (tables.segments-hold, tables.refused-kinds-hold, tables.base-readings-hold, tables.base-files-hold)
 
 pub answers-hold : promised.AnswersHold
 answers-hold =

@@ -223,7 +223,7 @@ readings =
     ∷ (((6 ∷ []), 0), Bad 1)
     -- contents
     ∷ (((1 ∷ 0 ∷ 16 ∷ []), 0), Bad 2)
-    ∷ (((2 ∷ 13 ∷ 0 ∷ []), 0), Bad 2)
+    ∷ (((2 ∷ 14 ∷ 0 ∷ []), 0), Bad 2)
     ∷ (((3 ∷ 0 ∷ 0 ∷ 0 ∷ 0 ∷ 0 ∷ 0 ∷ 0 ∷ 0 ∷ 0 ∷ []), 0), Bad 2)
     ∷ (((4 ∷ 0 ∷ 0 ∷ 0 ∷ 0 ∷ 0 ∷ 0 ∷ 0 ∷ 0 ∷ 65 ∷ []), 0), Bad 2)
     ∷ (((5 ∷ 0 ∷ []), 0), Bad 2)
@@ -277,8 +277,8 @@ file n vs k = record { number = n; file = record { values = vs; known = k } }
 
 unfoldable pub files : List (List Patch × FileAnswer)
 files =
-    ((knows 0 5 ∷ knows 16 6 ∷ []), file 0 (5 ∷ 0 ∷ 0 ∷ 0 ∷ 0 ∷ 0 ∷ 0 ∷ 0 ∷ 0 ∷ 0 ∷ 0 ∷ 0 ∷ 0 ∷ 0 ∷ 0 ∷ 0 ∷ 6 ∷ []) 0x10001)
-    ∷ ((knows 0 5 ∷ long 140 ∷ []), file 3 (0 ∷ 0 ∷ 0 ∷ 0 ∷ 0 ∷ 0 ∷ 0 ∷ 0 ∷ 0 ∷ 0 ∷ 0 ∷ 0 ∷ 0 ∷ 0 ∷ 0 ∷ 0 ∷ 0 ∷ []) 0)
+    ((knows 0 5 ∷ knows 16 6 ∷ []), file 0 (5 ∷ 0 ∷ 0 ∷ 0 ∷ 0 ∷ 0 ∷ 0 ∷ 0 ∷ 0 ∷ 0 ∷ 0 ∷ 0 ∷ 0 ∷ 0 ∷ 0 ∷ 0 ∷ 6 ∷ 0 ∷ 0 ∷ []) 0x10001)
+    ∷ ((knows 0 5 ∷ long 140 ∷ []), file 3 (0 ∷ 0 ∷ 0 ∷ 0 ∷ 0 ∷ 0 ∷ 0 ∷ 0 ∷ 0 ∷ 0 ∷ 0 ∷ 0 ∷ 0 ∷ 0 ∷ 0 ∷ 0 ∷ 0 ∷ 0 ∷ 0 ∷ []) 0)
     ∷ []
 
 abbrev pub recordFor : List Patch → RecordAnswer

@@ -22,7 +22,7 @@ use Rattle.digest.specs.declared.DigestAnswer.{DigestAnswer}
 use Rattle.implicit.specs.Lists.{entryAt}
 use Rattle.record.specs.Records.{recordAnswer}
 use Rattle.record.specs.declared.Record.{Record}
-use Rattle.definition.specs.Addresses.{registersOf, addressOf}
+use Rattle.definition.specs.Addresses.{registersOf, addressOf, segmentRegisters, basedOf}
 use Rattle.definition.specs.Behaviors.{digestCall, privilegeCall, exceptionsCall}
 use Rattle.definition.specs.Steps.{stepsOf}
 use Rattle.definition.specs.Logs.{eventsOf, eventBytes, bytesOf}
@@ -43,6 +43,7 @@ use Rattle.promises.specs.Beyond.{widening, masking, leas, ordering, add
 use Rattle.promises.specs.Answers.{listings, digestFor, digests, exceptionsFor, exceptions, privilegeFor, privileges, readingFrom, readings, numbersOf, answer-numbers, reading-numbers, digestNumbers, digest-numbers, infoNumbers, info-numbers, mayNumbers, may-numbers, privilegeNumbers, privilege-numbers, level-numbers, fileFor, files, recordFor, records, entryFor, entries, any-none, any-rows, vectors, vector-rows, vectors-after, chain-rows, may, may-rows, setter, setter-rows}
 use Rattle.promises.specs.Sweeps.{every-list, every-spec-read, every-spec-written, fixedBy, every-opcode, namedIn, every-bank, mulOf, every-width, valueIn, every-value, atSize0, every-memory-list}
 use Rattle.promises.specs.Fullest.{fullest, fullest-file}
+use Rattle.promises.specs.Segments.{segments, refused-kinds, base-readings, basesIn, base-files}
 
 -- DEMAND 3, FIRST HALF. Under a file that knows more, with room for the longest log on both sides, a visit is refused as before, number
 -- and opcode, and leaves the buffer; or it logs the same events in the same order, but for unknown addresses that are filled in.
@@ -78,6 +79,12 @@ abbrev pub UnknownExactly : Type 0
 UnknownExactly =
     (f : RegisterFile) (a : Address)
     → (addressOf f a ≡ Unknown) ↔ ((y : RegSpec) × List·Memᴰ y (registersOf a) × (valueOf f y ≡ Unknown))
+
+-- The same of an access: it lies at an unknown address exactly where the base of its segment or a register of its address is unknown.
+abbrev pub BaseUnknownExactly : Type 0
+BaseUnknownExactly =
+    (f : RegisterFile) (s : ℕ) (a : Address)
+    → (basedOf f s (addressOf f a) ≡ Unknown) ↔ ((y : RegSpec) × List·Memᴰ y (segmentRegisters s ++ registersOf a) × (valueOf f y ≡ Unknown))
 
 -- BOUNDS. No log is longer than mostBytes or has more than mostEvents, and no listing is longer than mostListed, for every record,
 -- refused or not, and every file.
@@ -193,6 +200,10 @@ BenchHolds = Visited bench
 abbrev pub BeyondHolds : Type 0
 BeyondHolds =
     Visited widening × Visited masking × Visited leas × Visited ordering × Visited addressing × Visited malformed × Visited refusing
+
+-- What T-10 says of segments, kinds and bank 13.
+abbrev pub SegmentsHold : Type 0
+SegmentsHold = Visited segments × Visited refused-kinds × Table readingFrom base-readings × Table basesIn base-files
 
 -- What the other calls and the setters answer.
 abbrev pub AnswersHold : Type 0

@@ -76,12 +76,20 @@ access n = put 37 (n ∷ [])
 abbrev pub list : ℕ → Patch
 list n = put 38 (little 2 n)
 
+-- the same record in the kind that names a segment
+abbrev pub segment : ℕ → Patch
+segment n b = put 40 (n ∷ []) (long 41 (put 0 (0x11 ∷ []) b))
+
 -- a register file that knows nothing but what is said
 abbrev pub fileKnowing : List Patch → List ℕ
 fileKnowing cs = patched (put 0 (fileKind ∷ []) ∷ cs) (replicate fileBytes 0)
 
 abbrev pub knows : ℕ → ℕ → Patch
 knows k v f = put (5 + 8 * k) (little 8 v) (put 1 (little 4 (numberAt f 1 4 + 2 ^ k)) f)
+
+-- the same file in the kind that holds bases: value 17 is that of fs, and 18 that of gs
+abbrev pub based : Patch
+based f = long 157 (put 0 (0x21 ∷ []) f)
 
 -- banks
 abbrev pub Q : ℕ
@@ -113,6 +121,10 @@ EIP = 10
 
 abbrev pub RFLAGS : ℕ
 RFLAGS = 11
+
+-- the bases of fs and gs
+abbrev pub BASES : ℕ
+BASES = 13
 
 -- specs
 abbrev pub Nothing : ℕ
@@ -150,6 +162,9 @@ Deref-rsi = 21
 
 abbrev pub Deref-edi : ℕ
 Deref-edi = 22
+
+abbrev pub Deref-esi : ℕ
+Deref-esi = 23
 
 abbrev pub Disp : ℕ
 Disp = 24
