@@ -1,7 +1,7 @@
 -- Addresses: of which registers they are made, and where they lie under a register file.
 use Prim.Native.Nat.{ℕ, _+_, _-_, _*_, _^_, _%_}
 use mathlib.Core.List.{List, [], _∷_, _++_}
-use mathlib.Core.Bool.{Bool, cond}
+use mathlib.Core.Bool.{Bool, false, cond}
 use lib.Dec.{eqb}
 use Rattle.laws.specs.Words.{bit}
 use Rattle.registers.specs.Banks.{fs, gs}
@@ -10,7 +10,7 @@ use Rattle.registers.specs.declared.RegSpec.{RegSpec}
 use Rattle.registers.specs.declared.RegisterFile.{RegisterFile}
 use Rattle.registers.specs.declared.Value.{Value}
 use Rattle.registers.specs.declared.Value.the-variants.{Known, Unknown}
-use Rattle.record.specs.Records.{regAt}
+use Rattle.record.specs.Records.{regAt, addressSize}
 use Rattle.record.specs.declared.Record.{Record}
 use Rattle.definition.specs.declared.Base.{Base}
 use Rattle.definition.specs.declared.Base.the-variants.{NoBase, Based, Named, Destination}
@@ -43,15 +43,24 @@ termOf f Absent = Known 0
 termOf f (Plain y) = valueOf f y
 termOf f (Scaled y k) = after (valueOf f y) (λ v. Known (v * k % word))
 
--- where an address lies, by what its terms add
+-- the low 32 bits of an address that is cut
+abbrev pub lowIf : Bool → ℕ → ℕ
+lowIf c n = cond c (n % 2 ^ 32) n
+
+-- where an address lies, by what its terms add: cut after the whole sum, once
 unfoldable pub placeOf : Address → ℕ → ℕ → ℕ
-placeOf a u v = (u + v + a .offset) % word
+placeOf a u v = lowIf (a .cut) ((u + v + a .offset) % word)
+
+-- the same address without the cut
+abbrev pub uncut : Address → Address
+uncut a = record { base = a .base; index = a .index; offset = a .offset; cut = false }
 
 -- unknown exactly where a register in it is
 unfoldable pub addressOf : RegisterFile → Address → Value
 addressOf f a = after (termOf f (a .base)) (λ u. after (termOf f (a .index)) (λ v. Known (placeOf a u v)))
 
--- The address of a memory operand: base regs[1] or the register named, index regs[2] times scale, and the displacement
+-- The address of a memory operand: base regs[1] or the register named, index regs[2] times scale, and the displacement; cut where the
+-- address-size bit is set
 unfoldable pub baseOf : Record → Base → Term
 baseOf x NoBase = Absent
 baseOf x Based = Plain (regAt x 1)
@@ -68,7 +77,7 @@ offsetOf x DispU64 = x .disp
 offsetOf x DispU32 = x .disp % 2 ^ 32
 
 unfoldable pub operandAddress : Record → Base → Bool → Displacement → Address
-operandAddress x b i d = record { base = baseOf x b; index = indexOf x i; offset = offsetOf x d }
+operandAddress x b i d = record { base = baseOf x b; index = indexOf x i; offset = offsetOf x d; cut = addressSize x }
 
 -- The base that a segment adds, by its number: 0 none, 1 fs, 2 gs. A segment of none is not asked for its register
 unfoldable pub segmentRegister : ℕ → RegSpec

@@ -102,12 +102,12 @@ shapeBase (Memory b i d m) = b
 unfoldable pub slotRegisters : Record → ℕ → List RegSpec
 slotRegisters x i = cond (isIn (specAt x i) stringSpecs) (termRegisters (baseOf x (shapeBase (shapeOf (specAt x i))))) []
 
--- a list's memory lies in no segment
+-- what a list touches lies in no segment and is never cut
 unfoldable pub implicitStep : ℕ → Way → ImplicitOperand → Step
 implicitStep size w (implied.Register y) = registerStep w y
-implicitStep size w (implied.MemDeref y) = touches w 0 (record { base = Plain y; index = Absent; offset = 0 }) 0 size
-implicitStep size w (implied.Disp y n) = touches w 0 (record { base = Plain y; index = Absent; offset = signed32 n }) 0 size
-implicitStep size w (implied.MemBaseIndexScale y z k) = touches w 0 (record { base = Plain y; index = Scaled z k; offset = 0 }) 0 size
+implicitStep size w (implied.MemDeref y) = touches w 0 (record { base = Plain y; index = Absent; offset = 0; cut = false }) 0 size
+implicitStep size w (implied.Disp y n) = touches w 0 (record { base = Plain y; index = Absent; offset = signed32 n; cut = false }) 0 size
+implicitStep size w (implied.MemBaseIndexScale y z k) = touches w 0 (record { base = Plain y; index = Scaled z k; offset = 0; cut = false }) 0 size
 
 -- a string slot logs its register and no memory
 unfoldable pub entrySteps : Record → Entry → List Step

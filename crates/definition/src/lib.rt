@@ -37,11 +37,12 @@ pub enum Term {
     Scaled(RegSpec, u8),
 }
 
-// An address before any register is asked for its value.
+// An address before any register is asked for its value, and whether the sum is cut to its low 32 bits.
 pub struct Address {
     pub base: Term,
     pub index: Term,
     pub offset: u64,
+    pub cut: bool,
 }
 
 // An event of a log. The last number of a memory event is its size.

@@ -33,7 +33,7 @@ use Rattle.record.specs.Records.{outside, specAt, regAt}
 use Rattle.record.specs.declared.Record.{Record}
 use Rattle.definition.specs.Tables.{shapes, shapeOf, stringSpecs}
 use Rattle.definition.specs.Behaviors.{fixedUp, Operand, operandAt, operandsOf, isMemory}
-use Rattle.definition.specs.Addresses.{termRegisters, registersOf, termOf, placeOf, addressOf, baseOf, indexOf, operandAddress, segmentRegister, segmentRegisters, basedOn, basedOf, segmentOf}
+use Rattle.definition.specs.Addresses.{termRegisters, registersOf, termOf, lowIf, placeOf, addressOf, baseOf, indexOf, operandAddress, segmentRegister, segmentRegisters, basedOn, basedOf, segmentOf}
 use Rattle.definition.specs.Steps.{Step, reads, writes, touches, registerStep, maskRegisters, maskFor, maskSteps, isLea, fourthOf, widened, readPart, writePart, operandSteps, shapeBase, slotRegisters, implicitStep, entrySteps, rflags, flagSteps, stepsOf}
 use Rattle.definition.specs.Logs.{memoryEvent, stepEvents, eventsOf}
 use Rattle.definition.specs.Refusals.{accessed, unnamed, nameless, sizeless}
@@ -77,9 +77,13 @@ after-small : (v : Value) (k : ℕ → Value) → ((n : ℕ) → Small (k n)) �
 after-small (Known v) k h = h v
 after-small Unknown k h = tt
 
+low-small : (c : Bool) (n : ℕ) → n < 2 ^ 64 → lowIf c n < 2 ^ 64
+low-small true n h = omega arith
+low-small false n h = h
+
 address-small : (f : RegisterFile) (a : Address) → Small (addressOf f a)
 unfolding addressOf placeOf
-address-small f a = after-small (termOf f (a .base)) _ (λ u. after-small (termOf f (a .index)) _ (λ v. mod-lt _ (lit< tt)))
+address-small f a = after-small (termOf f (a .base)) _ (λ u. after-small (termOf f (a .index)) _ (λ v. low-small (a .cut) _ (mod-lt _ (lit< tt))))
 
 based-small : (f : RegisterFile) (s : ℕ) (v : Value) → Small v → Small (basedOf f s v)
 unfolding basedOf

@@ -10,12 +10,14 @@ use Rattle.laws.specs.Tests.{firstOf}
 use Rattle.laws.proofs.Outcomes.{one-outcome}
 use Rattle.registers.specs.Files.{fileOf, isFile}
 use Rattle.record.specs.Records.{isRecord, recordOf, outside}
+use Rattle.definition.specs.Addresses.{operandAddress}
 use Rattle.definition.specs.Behaviors.{complex}
 use Rattle.definition.specs.Logs.{bytesOf}
 use Rattle.definition.specs.Refusals.{nameless, sizeless, noRoom}
 use Rattle.definition.specs.Visits.{fixedRecord, logOf, refusalOf, visitBy}
 use Rattle.definition.specs.Listings.{listingOf, listingRefusal, listingCall}
 use Rattle.definition.proofs.Bounds.{log-bytes, log-events}
+use Rattle.definition.proofs.CutLast as law
 use Rattle.definition.proofs.ListingBound.{listing-bytes}
 use Rattle.promises.specs.Promises as promised
 use Rattle.promises.proofs.Demands.{by-refines, by-agrees}
@@ -44,6 +46,10 @@ unknown-exactly f a = (unknown-to f a, unknown-from f a)
 
 pub base-unknown-exactly : promised.BaseUnknownExactly
 base-unknown-exactly f s a = (based-to f s a, based-from f s a)
+
+pub cut-last : promised.CutLast
+unfolding operandAddress
+cut-last f x b i d = law.cut-last f (operandAddress x b i d)
 
 pub log-is-short : promised.LogBytes
 log-is-short f x = log-bytes f x
@@ -106,7 +112,7 @@ bench-holds = tables.bench-holds
 
 pub beyond-holds : promised.BeyondHolds
 beyond-holds =
-    (tables.widening-holds, tables.masking-holds, tables.leas-holds, tables.ordering-holds, tables.addressing-holds, tables.malformed-holds, tables.refusing-holds)
+    (tables.widening-holds, tables.masking-holds, tables.leas-holds, tables.ordering-holds, tables.addressing-holds, tables.cutting-holds, tables.malformed-holds, tables.refusing-holds)
 
 pub segments-hold : promised.SegmentsHold
 segments-hold = (tables.segments-hold, tables.refused-kinds-hold, tables.base-readings-hold, tables.base-files-hold)

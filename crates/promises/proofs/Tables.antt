@@ -4,7 +4,7 @@ use Rattle.access.specs.Privileges.{levelNumber}
 use Rattle.definition.specs.Readings.{readingNumber}
 use Rattle.promises.specs.Rows.{Visited, Listed, Table}
 use Rattle.promises.specs.Bench.{bench}
-use Rattle.promises.specs.Beyond.{widening, masking, leas, ordering, addressing, malformed, refusing}
+use Rattle.promises.specs.Beyond.{widening, masking, leas, ordering, addressing, cutting, malformed, refusing}
 use Rattle.promises.specs.Answers.{listings, digestFor, digests, exceptionsFor, exceptions, privilegeFor, privileges, readingFrom, readings, numbersOf, answer-numbers, reading-numbers, digestNumbers, digest-numbers, infoNumbers, info-numbers, mayNumbers, may-numbers, privilegeNumbers, privilege-numbers, level-numbers, fileFor, files, recordFor, records, entryFor, entries, any-none, any-rows, vectors, vector-rows, vectors-after, chain-rows, may, may-rows, setter, setter-rows}
 use Rattle.promises.specs.Sweeps.{every-list, every-spec-read, every-spec-written, fixedBy, every-opcode, namedIn, every-bank, mulOf, every-width, valueIn, every-value, atSize0, every-memory-list}
 use Rattle.promises.specs.Segments.{segments, refused-kinds, base-readings, basesIn, base-files}
@@ -33,6 +33,10 @@ ordering-holds = refl
 pub addressing-holds : Visited addressing
 unfolding opened addressing
 addressing-holds = refl
+
+pub cutting-holds : Visited cutting
+unfolding opened cutting
+cutting-holds = refl
 
 pub malformed-holds : Visited malformed
 unfolding opened malformed

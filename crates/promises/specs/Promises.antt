@@ -12,17 +12,17 @@ use Rattle.access.specs.Exceptions.{setOf, thenSet, mayOf}
 use Rattle.access.specs.Privileges.{levelNumber}
 use Rattle.access.specs.declared.ExceptionInfo.{ExceptionInfo}
 use Rattle.access.specs.declared.InfoAnswer.{InfoAnswer}
-use Rattle.registers.specs.Files.{fileOf, fileAnswer, isFile, slotOf, valueOf}
+use Rattle.registers.specs.Files.{fileOf, fileAnswer, isFile, slotOf, after, valueOf}
 use Rattle.registers.specs.declared.RegSpec.{RegSpec}
 use Rattle.registers.specs.declared.RegisterFile.{RegisterFile}
-use Rattle.registers.specs.declared.Value.the-variants.{Unknown}
+use Rattle.registers.specs.declared.Value.the-variants.{Known, Unknown}
 use Rattle.digest.specs.Digests.{withPrivilege, withFlags, withNontrivial, withComplex, operandAnswer, listAnswer, then}
 use Rattle.digest.specs.declared.BehaviorDigest.{BehaviorDigest}
 use Rattle.digest.specs.declared.DigestAnswer.{DigestAnswer}
 use Rattle.implicit.specs.Lists.{entryAt}
-use Rattle.record.specs.Records.{recordAnswer}
+use Rattle.record.specs.Records.{recordAnswer, addressSize}
 use Rattle.record.specs.declared.Record.{Record}
-use Rattle.definition.specs.Addresses.{registersOf, addressOf, segmentRegisters, basedOf}
+use Rattle.definition.specs.Addresses.{registersOf, lowIf, uncut, addressOf, operandAddress, segmentRegisters, basedOf}
 use Rattle.definition.specs.Behaviors.{digestCall, privilegeCall, exceptionsCall}
 use Rattle.definition.specs.Steps.{stepsOf}
 use Rattle.definition.specs.Logs.{eventsOf, eventBytes, bytesOf}
@@ -33,13 +33,15 @@ use Rattle.definition.specs.Readings.{isEvent, readFront, readAt, Reads, readin
 use Rattle.definition.specs.declared.Address.{Address}
 use Rattle.definition.specs.declared.Answer.{Answer}
 use Rattle.definition.specs.declared.Answer.the-variants.{Done, Short}
+use Rattle.definition.specs.declared.Base.{Base}
+use Rattle.definition.specs.declared.Displacement.{Displacement}
 use Rattle.definition.specs.declared.Event.{Event}
 use Rattle.definition.specs.declared.Reading.the-variants.{Found}
 use Rattle.promises.specs.Refinement.{Extends, AgreeOn}
 use Rattle.promises.specs.Calls.{Refusal, Retried, Alike, Written, ReadsFrom, Addressable, Program}
 use Rattle.promises.specs.Rows.{recordWith, fileKnowing, buffer, Visited, Listed, Table}
 use Rattle.promises.specs.Bench.{P1, P2, P2-file, bench}
-use Rattle.promises.specs.Beyond.{widening, masking, leas, ordering, addressing, malformed, refusing}
+use Rattle.promises.specs.Beyond.{widening, masking, leas, ordering, addressing, cutting, malformed, refusing}
 use Rattle.promises.specs.Answers.{listings, digestFor, digests, exceptionsFor, exceptions, privilegeFor, privileges, readingFrom, readings, numbersOf, answer-numbers, reading-numbers, digestNumbers, digest-numbers, infoNumbers, info-numbers, mayNumbers, may-numbers, privilegeNumbers, privilege-numbers, level-numbers, fileFor, files, recordFor, records, entryFor, entries, any-none, any-rows, vectors, vector-rows, vectors-after, chain-rows, may, may-rows, setter, setter-rows}
 use Rattle.promises.specs.Sweeps.{every-list, every-spec-read, every-spec-written, fixedBy, every-opcode, namedIn, every-bank, mulOf, every-width, valueIn, every-value, atSize0, every-memory-list}
 use Rattle.promises.specs.Fullest.{fullest, fullest-file}
@@ -85,6 +87,13 @@ abbrev pub BaseUnknownExactly : Type 0
 BaseUnknownExactly =
     (f : RegisterFile) (s : ℕ) (a : Address)
     → (basedOf f s (addressOf f a) ≡ Unknown) ↔ ((y : RegSpec) × List·Memᴰ y (segmentRegisters s ++ registersOf a) × (valueOf f y ≡ Unknown))
+
+-- CUT LAST. An explicit operand lies where the sum of all its parts says; with the address-size bit, at its low 32 bits.
+abbrev pub CutLast : Type 0
+CutLast =
+    (f : RegisterFile) (x : Record) (b : Base) (i : Bool) (d : Displacement)
+    → addressOf f (operandAddress x b i d)
+    ≡ after (addressOf f (uncut (operandAddress x b i d))) (λ v. Known (lowIf (addressSize x) v))
 
 -- BOUNDS. No log is longer than mostBytes or has more than mostEvents, and no listing is longer than mostListed, for every record,
 -- refused or not, and every file.
@@ -199,7 +208,7 @@ BenchHolds = Visited bench
 -- What P1 to P11 do not see of visiting: the four errors that look reasonable, masks, LEA, orders, addresses, refusals and room.
 abbrev pub BeyondHolds : Type 0
 BeyondHolds =
-    Visited widening × Visited masking × Visited leas × Visited ordering × Visited addressing × Visited malformed × Visited refusing
+    Visited widening × Visited masking × Visited leas × Visited ordering × Visited addressing × Visited cutting × Visited malformed × Visited refusing
 
 -- What T-10 says of segments, kinds and bank 13.
 abbrev pub SegmentsHold : Type 0

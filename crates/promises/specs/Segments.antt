@@ -8,7 +8,7 @@ use Rattle.definition.specs.declared.Event.the-variants.{RegisterRead, Register
 use Rattle.definition.specs.declared.Reading.{Reading}
 use Rattle.definition.specs.declared.Reading.the-variants.{Found, Bad}
 use Rattle.registers.specs.Banks as banks
-use Rattle.promises.specs.Rows.{Patch, put, long, segment, opcode, specs, regs, disp, imm, scale, mask, behavior, access, list, fileKnowing, based, knows, Q, D, K, BASES, RegRRR, Reg4, Deref, Deref-rdi, Deref-rsi, Deref-edi, Deref-esi, MemBaseIndexScale-mask, DispU64, ImmI8, log, reads, writes, loads, stores, loads-unknown, stores-unknown, Row, row}
+use Rattle.promises.specs.Rows.{Patch, put, long, segment, opcode, specs, regs, disp, imm, scale, prefixes, mask, behavior, access, list, fileKnowing, based, knows, Q, D, K, BASES, RegRRR, Reg4, Deref, Deref-rdi, Deref-rsi, Deref-edi, Deref-esi, Disp, MemBaseIndexScale-mask, DispU64, ImmI8, log, reads, writes, loads, stores, loads-unknown, stores-unknown, Row, row}
 
 -- rbx is 0x1000, rsi 0x2000 and rdi 0x3000; fs is 0x70000 and gs 0x80000
 abbrev plain-file : List Patch
@@ -34,6 +34,9 @@ segments =
     ∷ row (specs (MemBaseIndexScale-mask ∷ []) ∷ regs 1 Q 3 ∷ regs 2 Q 6 ∷ scale 2 ∷ mask 5 ∷ segment 2 ∷ []) both (Done 22)
     (log (reads BASES 1 ∷ reads Q 3 ∷ reads Q 6 ∷ reads K 5 ∷ loads 0x85000 8 ∷ []))
     ∷ row (specs (Deref ∷ []) ∷ regs 1 Q 3 ∷ segment 1 ∷ []) (knows 3 0x1000 ∷ based ∷ knows 17 (2 ^ 64 - 0x800) ∷ []) (Done 16) (log (reads BASES 0 ∷ reads Q 3 ∷ loads 0x800 8 ∷ []))
+    -- added after the cut of the address size, which does not touch it
+    ∷ row (prefixes 0x08 ∷ specs (Disp ∷ []) ∷ regs 1 Q 0 ∷ disp 0xFFFFFFF8 ∷ segment 1 ∷ []) (knows 0 4 ∷ based ∷ knows 17 0x100000010 ∷ []) (Done 16)
+    (log (reads BASES 0 ∷ reads Q 0 ∷ loads 0x20000000C 8 ∷ []))
     -- no register in the address
     ∷ row (specs (DispU64 ∷ []) ∷ disp 0x28 ∷ segment 1 ∷ []) both (Done 13) (log (reads BASES 0 ∷ loads 0x70028 8 ∷ []))
     -- read and written: the base in each part

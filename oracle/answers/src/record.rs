@@ -59,6 +59,18 @@ impl Record {
         self.corrected().unwrap_or_else(|| self.behavior().digest())
     }
 
+    /// T-02, applied to the given Rust's accesses: how many of them lie where it says. Without the address-size bit all do; with it
+    /// only that of the implicit list, which comes first. Every further one is an explicit operand's, and is cut.
+    pub fn uncut_accesses(&self) -> usize {
+        if self.instruction.prefixes.bits & ADDRESS_SIZE == 0 {
+            return usize::MAX;
+        }
+        match self.digest().2 {
+            15 | 16 | 26..=28 => 1,
+            _ => 0,
+        }
+    }
+
     /// T-06, applied to the given Rust's digest after fix-ups: LOOP's list goes by the address size alone, and IMUL with
     /// three operands only writes operand 0. No other digest is touched.
     fn corrected(&self) -> Option<(u8, u8, u16)> {

@@ -48,6 +48,7 @@ fn p4() {
 fn p5_to_p7() {
     let record = Draft::of(&[DISP]).reg(1, Q, 3).disp(0xFFFF_FFF8);
     assert_eq!(address(record, files::holding(&[(3, 4)])), 0xFFFF_FFFF_FFFF_FFFC);
+    assert_eq!(address(record.prefixes(0x08), files::holding(&[(3, 4)])), 0xFFFF_FFFC);
     assert_eq!(address(record.spec(0, DISP_U32), files::holding(&[(3, 4)])), 0xFFFF_FFF8);
     let record = Draft::of(&[MEM_INDEX_SCALE]).reg(2, Q, 1).scale(2);
     assert_eq!(address(record, files::holding(&[(1, 0x8000_0000_0000_0001)])), 2);
@@ -58,6 +59,7 @@ fn p8_and_p9() {
     let push = Draft::of(&[]).list(26);
     assert_eq!(log(push, files::holding(&[])).len(), 19);
     assert_eq!(address(push, files::holding(&[])), 0xFFFF_FFFF_FFFF_FFF8);
+    assert_eq!(address(push.prefixes(0x08), files::holding(&[])), 0xFFFF_FFFF_FFFF_FFF8);
     let xlat = Draft::of(&[]).list(28).size(1);
     assert_eq!(address(xlat, files::holding(&[(3, 0x2000), (0, 0x1234)])), 0x2034);
 }

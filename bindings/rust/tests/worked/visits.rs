@@ -61,6 +61,15 @@ fn addresses() {
     let p5 = minus_8(operands(1, MEM_DISP, 0, 0x01));
     let log = b"\x01\x00\x00\x03\xFC\xFF\xFF\xFF\xFF\xFF\xFF\xFF\x08";
     row("P5", p5, knowing(unknown(), 0, 4), 0x0D_0000_0000, log);
+    let short = with(p5, PREFIXES, 0x08);
+    let log = b"\x01\x00\x00\x03\xFC\xFF\xFF\xFF\x00\x00\x00\x00\x08";
+    row(
+        "P5, address size",
+        short,
+        knowing(unknown(), 0, 4),
+        0x0D_0000_0000,
+        log,
+    );
     let p6 = minus_8(operands(1, DISP_U32, 0, 0x01));
     let log = b"\x03\xF8\xFF\xFF\xFF\x00\x00\x00\x00\x08";
     row("P6", p6, unknown(), 0x0A_0000_0000, log);
@@ -75,6 +84,8 @@ fn lists() {
     let rsp = knowing(unknown(), 4, 0);
     let log = b"\x01\x00\x04\x02\x00\x04\x01\x00\x04\x04\xF8\xFF\xFF\xFF\xFF\xFF\xFF\xFF\x08";
     row("P8", listed(26), rsp, 0x13_0000_0000, log);
+    let short = with(listed(26), PREFIXES, 0x08);
+    row("P8, address size", short, rsp, 0x13_0000_0000, log);
     let file = knowing(knowing(unknown(), 3, 0x2000), 0, 0x1234);
     let log = b"\x01\x00\x03\x01\x04\x00\x03\x34\x20\x00\x00\x00\x00\x00\x00\x01";
     row("P9", with(listed(28), SIZE, 1), file, 0x10_0000_0000, log);
