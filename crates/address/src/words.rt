@@ -1,9 +1,9 @@
 // Numbers of 64 bits, modulo two to the 64.
 ghost use mathlib.Core.Path.{_≡_};
-ghost use Prim.Native.Nat.{_+_, _*_, _%_, _^_, _<_};
+ghost use Prim.Native.Nat.{_*_, _%_, _^_};
 ghost use Rattle.definition.specs.Addresses.{signed32};
 
-// A number times a byte, by halves: nothing overflows, and no bit of the byte is asked.
+// A number times a byte, by its two halves of 32 bits: neither product overflows, and the upper is cut to 32 bits.
 pub fn times(a: u64, scale: u8) -> u64
     ensures { λ r. ⌜ r ≡ a * scale % 2 ^ 64 ⌝ }
 {

@@ -1,4 +1,3 @@
-use Prim.Native.Nat.{_/_}
 use native.Mathlib.Omega.{arith}
 use Rattle.address.proofs.Halves.{half-times, halves}
 use borrow.Author.Needs.{needs}
@@ -9,7 +8,7 @@ mul-low : tie.Need-mul-low
 mul-low c = record { fits = half-times _ _ (omega arith) (c .fits .scale .fits) }
 
 mul-high : tie.Need-mul-high
-mul-high c = record { fits = half-times (c .args .a / 4294967296) _ (omega arith) (c .fits .scale .fits) }
+mul-high c = record { fits = half-times _ _ (omega arith) (c .fits .scale .fits) }
 
 mul-wrapping-add-u64 : tie.Need-mul-wrapping-add-u64
 mul-wrapping-add-u64 c = search needs
