@@ -1,6 +1,7 @@
 -- What a file says of the registers that a record's addresses are made of, and sums of what is known.
 use Prim.Native.Nat.{ℕ, _+_, _*_, _^_, _%_}
 use mathlib.Core.List.{List, [], _∷_}
+use mathlib.Core.Bool.{Bool, false, cond}
 use Rattle.registers.specs.Files.{after, valueOf}
 use Rattle.registers.specs.declared.RegisterFile.{RegisterFile}
 use Rattle.registers.specs.declared.Value.{Value}
@@ -12,7 +13,7 @@ use Rattle.implicit.specs.declared.Entry.{Entry}
 use Rattle.implicit.specs.declared.Entry.the-variants.{Operand, Slot, End}
 use Rattle.record.specs.Records.{regAt}
 use Rattle.record.specs.declared.Record.{Record}
-use Rattle.definition.specs.Addresses.{word, signed32, addressOf}
+use Rattle.definition.specs.Addresses.{word, signed32, addressOf, segmentRegister}
 use Rattle.definition.specs.declared.Address.{Address}
 use Rattle.definition.specs.declared.Term.the-variants.{Absent, Plain, Scaled}
 use Rattle.address.specs.declared.places.Sources.{Sources}
@@ -27,15 +28,19 @@ sumOf u v = after u (λ a. plusOf v a)
 abbrev pub lowOf : Value → Value
 lowOf v = after v (λ a. Known (a % 2 ^ 32))
 
+-- cut to its low 32 bits, or as it is
+abbrev pub cutOf : Bool → Value → Value
+cutOf c v = cond c (lowOf v) v
+
 abbrev pub scaledOf : Value → ℕ → Value
 scaledOf v k = after v (λ a. Known (a * k % word))
 
 -- where an implicit operand lies; a register lies nowhere, and there the others of its list decide
 unfoldable pub operandPlace : RegisterFile → Value → ImplicitOperand → Value
 operandPlace f v (Register y) = v
-operandPlace f v (MemDeref y) = addressOf f (record { base = Plain y; index = Absent; offset = 0 })
-operandPlace f v (Disp y n) = addressOf f (record { base = Plain y; index = Absent; offset = signed32 n })
-operandPlace f v (MemBaseIndexScale y z k) = addressOf f (record { base = Plain y; index = Scaled z k; offset = 0 })
+operandPlace f v (MemDeref y) = addressOf f (record { base = Plain y; index = Absent; offset = 0; cut = false })
+operandPlace f v (Disp y n) = addressOf f (record { base = Plain y; index = Absent; offset = signed32 n; cut = false })
+operandPlace f v (MemBaseIndexScale y z k) = addressOf f (record { base = Plain y; index = Scaled z k; offset = 0; cut = false })
 
 unfoldable pub entryPlace : RegisterFile → Value → Entry → Value
 entryPlace f v (Operand o w) = operandPlace f v o
@@ -59,4 +64,5 @@ sourcesOf f x =
       rdi = valueOf f rdi;
       rsi = valueOf f rsi;
       implied = impliedPlace f (x .digest .extra);
+      segment = valueOf f (segmentRegister (x .segment));
     }

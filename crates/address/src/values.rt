@@ -2,7 +2,7 @@
 use crate::words::times;
 use registers::Value;
 ghost use mathlib.Core.Path.{_≡_};
-ghost use Rattle.address.specs.Places.{plusOf, sumOf, lowOf, scaledOf};
+ghost use Rattle.address.specs.Places.{plusOf, sumOf, lowOf, cutOf, scaledOf};
 
 // A value and a number.
 pub fn plus(v: Value, offset: u64) -> Value
@@ -31,6 +31,13 @@ pub fn low(v: Value) -> Value
         Value::Known(a) => Value::Known(a % 0x1_0000_0000),
         Value::Unknown => Value::Unknown,
     }
+}
+
+// The low 32 bits where an address is cut to them.
+pub fn cut(v: Value, narrow: bool) -> Value
+    ensures { λ r. ⌜ r ≡ cutOf narrow v ⌝ }
+{
+    if narrow { low(v) } else { v }
 }
 
 // Unknown stays unknown, also times 0.
