@@ -2,7 +2,7 @@
 -- The words that the statements use stand in Refinement.antt (files and events), Calls.antt (calls) and Rows.antt (tables).
 use Prim.Native.Nat.{ℕ, _+_, _-_, _≤_}
 use mathlib.Core.Path.{_≡_}
-use mathlib.Core.List.{List, [], _++_, List·Memᴰ}
+use mathlib.Core.List.{List, [], _∷_, _++_, List·Memᴰ}
 use mathlib.Core.Logic.{_↔_}
 use mathlib.Core.Bool.{Bool, true, not}
 use lib.ListN.{length, take, drop, set}
@@ -12,7 +12,7 @@ use Rattle.access.specs.Exceptions.{setOf, thenSet, mayOf}
 use Rattle.access.specs.Privileges.{levelNumber}
 use Rattle.access.specs.declared.ExceptionInfo.{ExceptionInfo}
 use Rattle.access.specs.declared.InfoAnswer.{InfoAnswer}
-use Rattle.registers.specs.Files.{fileOf, fileAnswer, isFile, slotOf, after, valueOf}
+use Rattle.registers.specs.Files.{fileKind, basedKind, fileBytes, basedBytes, fileOf, fileAnswer, isFile, slotOf, after, valueOf}
 use Rattle.registers.specs.declared.RegSpec.{RegSpec}
 use Rattle.registers.specs.declared.RegisterFile.{RegisterFile}
 use Rattle.registers.specs.declared.Value.the-variants.{Known, Unknown}
@@ -20,7 +20,7 @@ use Rattle.digest.specs.Digests.{withPrivilege, withFlags, withNontrivial, with
 use Rattle.digest.specs.declared.BehaviorDigest.{BehaviorDigest}
 use Rattle.digest.specs.declared.DigestAnswer.{DigestAnswer}
 use Rattle.implicit.specs.Lists.{entryAt}
-use Rattle.record.specs.Records.{recordAnswer, addressSize}
+use Rattle.record.specs.Records.{recordKind, segmentKind, recordBytes, recordAnswer, addressSize}
 use Rattle.record.specs.declared.Record.{Record}
 use Rattle.definition.specs.Addresses.{registersOf, lowIf, uncut, addressOf, operandAddress, segmentRegisters, basedOf}
 use Rattle.definition.specs.Behaviors.{digestCall, privilegeCall, exceptionsCall}
@@ -129,6 +129,24 @@ BoundsReached =
     × (listingCall fullest (buffer mostListed) 0 .0 ≡ Done mostListed)
     × (visitOf fullest fullest-file (buffer (mostBytes - 1)) 0 ≡ (Short mostBytes, buffer (mostBytes - 1)))
     × (listingCall fullest (buffer (mostListed - 1)) 0 ≡ (Short mostListed, buffer (mostListed - 1)))
+
+-- OLD KINDS. A record that names no segment answers what the same bytes answer in the kind without one, and a file whose known bits are
+-- those of the first kind what its bytes without the bases answer.
+abbrev pub OldRecords : Type 0
+OldRecords =
+    (t f p : List ℕ) (s : ℕ)
+    → length t + 1 ≡ recordBytes
+    → (visitOf (segmentKind ∷ (t ++ (0 ∷ []))) f p s ≡ visitOf (recordKind ∷ t) f p s)
+    × (listingCall (segmentKind ∷ (t ++ (0 ∷ []))) p s ≡ listingCall (recordKind ∷ t) p s)
+    × (digestCall (segmentKind ∷ (t ++ (0 ∷ []))) ≡ digestCall (recordKind ∷ t))
+    × (privilegeCall (segmentKind ∷ (t ++ (0 ∷ []))) ≡ privilegeCall (recordKind ∷ t))
+    × (exceptionsCall (segmentKind ∷ (t ++ (0 ∷ []))) ≡ exceptionsCall (recordKind ∷ t))
+
+abbrev pub OldFiles : Type 0
+OldFiles =
+    (b t bases p : List ℕ) (s : ℕ)
+    → isFile (fileKind ∷ t) ≡ true → length bases + fileBytes ≡ basedBytes
+    → visitOf b (basedKind ∷ (t ++ bases)) p s ≡ visitOf b (fileKind ∷ t) p s
 
 -- ONE OUTCOME. Any two outcomes that a call's contract allows are equal: answer, count and every byte lent. The calls over bytes:
 abbrev pub EveryCallDetermined : Type 0

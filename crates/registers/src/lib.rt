@@ -238,11 +238,7 @@ pub fn length_of(kind: u8) -> usize
     if kind == FILE_KIND {
         return FILE_BYTES;
     }
-    if kind == BASED_KIND {
-        BASED_BYTES
-    } else {
-        0
-    }
+    if kind == BASED_KIND { BASED_BYTES } else { 0 }
 }
 
 const PLAIN_END: u32 = 1 << PLAIN_SLOTS;
@@ -256,11 +252,7 @@ fn known_end(kind: u8) -> u32
     if kind == FILE_KIND {
         return PLAIN_END;
     }
-    if kind == BASED_KIND {
-        BASED_END
-    } else {
-        1
-    }
+    if kind == BASED_KIND { BASED_END } else { 1 }
 }
 
 // Refusal 3 of a file's bytes, or 0.
@@ -273,7 +265,11 @@ pub fn refusal_of(b: &[u8]) -> u8
     if b.len() != length_of(b[0]) {
         return 3;
     }
-    if laws::u32_at(b, 1) < known_end(b[0]) { 0 } else { 3 }
+    if laws::u32_at(b, 1) < known_end(b[0]) {
+        0
+    } else {
+        3
+    }
 }
 
 // An element of a lent array is read where it stands, and that of a file by value once the whole file is copied. Most registers are
