@@ -17,7 +17,7 @@ use Rattle.definition.specs.declared.Event.the-variants.{RegisterRead, Register
 use Rattle.address.specs.Places.{sourcesOf}
 use Rattle.steps.specs.Whole.{flagsRead, flagsWrite, logEvents}
 use Rattle.steps.proofs.Operands.{explicit-is}
-use Rattle.steps.proofs.Lists.{list-is}
+use Rattle.implied.proofs.Lists.{list-is}
 
 module _ (f : RegisterFile) (x : Record) where
   both : (r w : Bool) → eventsOf f (flat (cond r (reads rflags ∷ []) [] ∷ cond w (writes rflags ∷ []) [] ∷ [])) ≡ cond r (RegisterRead rflags ∷ []) [] ++ cond w (RegisterWrite rflags ∷ []) []

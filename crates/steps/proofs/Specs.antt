@@ -34,8 +34,9 @@ use Rattle.definition.specs.declared.Event.the-variants.{RegisterRead}
 use Rattle.address.specs.Places.{sourcesOf}
 use Rattle.address.proofs.Sums.{at-register, at-disp, at-index, at-index-disp, at-both, at-both-disp, at-number, low-rdi, low-rsi}
 use Rattle.event.specs.Moves.{moved}
-use Rattle.steps.specs.Parts.{plainEvents, maskedEvents, accessEvents, derefEvents, indexedEvents, parts, partEvents}
-use Rattle.steps.proofs.Registers.{events-moved}
+use Rattle.moves.specs.Touches.{plainEvents, maskedEvents, accessEvents, derefEvents, indexedEvents}
+use Rattle.steps.specs.Parts.{parts, partEvents}
+use Rattle.moves.proofs.Registers.{events-moved}
 
 unfoldable pub partSteps : Way → Record → Shape → List Step
 partSteps Read x s = readPart x s

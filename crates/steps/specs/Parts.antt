@@ -1,13 +1,11 @@
 -- The parts of explicit operands as events, from what the record's addresses are made of: no register file enters.
 use Prim.Native.Nat.{ℕ, zero, suc, _+_, _*_, _/_, _%_, _^_}
 use mathlib.Core.List.{List, [], _∷_}
-use mathlib.Core.Bool.{Bool, false, cond}
+use mathlib.Core.Bool.{cond}
 use lib.ListN.{getD}
 use lib.Dec.{ltb, eqb}
 use Rattle.laws.specs.Words.{bit}
 use Rattle.laws.specs.Lists.{flat}
-use Rattle.registers.specs.declared.RegSpec.{RegSpec}
-use Rattle.registers.specs.declared.Value.{Value}
 use Rattle.registers.specs.declared.Value.the-variants.{Known}
 use Rattle.implicit.specs.Lists.{rdi, rsi, edi, esi}
 use Rattle.implicit.specs.declared.Way.{Way}
@@ -15,40 +13,11 @@ use Rattle.implicit.specs.declared.Way.the-variants.{Read, Write}
 use Rattle.record.specs.Records.{specAt, regAt}
 use Rattle.record.specs.declared.Record.{Record}
 use Rattle.definition.specs.Addresses.{signed32}
-use Rattle.definition.specs.Steps.{maskRegisters, isLea, fourthOf, widened}
-use Rattle.definition.specs.Logs.{memoryEvent}
+use Rattle.definition.specs.Steps.{fourthOf}
 use Rattle.definition.specs.declared.Event.{Event}
-use Rattle.definition.specs.declared.Event.the-variants.{RegisterRead, RegisterWrite}
 use Rattle.address.specs.Places.{plusOf, sumOf, lowOf}
 use Rattle.address.specs.declared.places.Sources.{Sources}
-use Rattle.event.specs.Moves.{moved}
-
--- a register: a write is widened
-unfoldable pub plainEvents : Way → RegSpec → List Event
-plainEvents Read y = RegisterRead y ∷ []
-plainEvents Write y = RegisterWrite (widened y) ∷ []
-
--- a register under a mask: read before it, written after it and as it is
-unfoldable pub maskedEvents : Way → RegSpec → ℕ → List Event
-maskedEvents Read y m = flat ((RegisterRead y ∷ []) ∷ moved Read (maskRegisters m) ∷ [])
-maskedEvents Write y m = flat (moved Read (maskRegisters m) ∷ (RegisterWrite y ∷ []) ∷ [])
-
--- under LEA a read part stops before the access
-abbrev pub stops : Record → Way → Bool
-stops x Read = isLea x
-stops x Write = false
-
--- the access itself
-unfoldable pub accessEvents : Record → Way → Value → List Event
-accessEvents x w v = cond (stops x w) [] (memoryEvent w v (x .size) ∷ [])
-
--- one register of an address, the mask, the access
-unfoldable pub derefEvents : Record → Way → RegSpec → ℕ → Value → List Event
-derefEvents x w y m v = flat ((RegisterRead y ∷ []) ∷ moved Read (maskRegisters m) ∷ accessEvents x w v ∷ [])
-
--- base and index
-unfoldable pub indexedEvents : Record → Way → ℕ → Value → List Event
-indexedEvents x w m v = flat ((RegisterRead (regAt x 1) ∷ []) ∷ derefEvents x w (regAt x 2) m v ∷ [])
+use Rattle.moves.specs.Touches.{plainEvents, maskedEvents, accessEvents, derefEvents, indexedEvents}
 
 -- by spec, 0 to 35
 abbrev pub parts : Record → Way → Sources → List (List Event)

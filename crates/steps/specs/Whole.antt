@@ -10,7 +10,7 @@ use Rattle.definition.specs.declared.Event.{Event}
 use Rattle.definition.specs.declared.Event.the-variants.{RegisterRead, RegisterWrite}
 use Rattle.address.specs.declared.places.Sources.{Sources}
 use Rattle.steps.specs.Parts.{explicitEvents}
-use Rattle.steps.specs.Implied.{listEvents}
+use Rattle.implied.specs.Implied.{listEvents}
 
 abbrev pub flagsRead : Record → List Event
 flagsRead x = cond (reading (flagsAccess (x .digest))) (RegisterRead rflags ∷ []) []

@@ -1,10 +1,10 @@
 // The whole log of a visit.
 use crate::explicit::put_operands;
-use crate::implied::put_list;
-use crate::names::RFLAGS;
 use address::Sources;
 use event::put_register;
 use implicit::Way;
+use implied::put_list;
+use moves::names::RFLAGS;
 use record::Record;
 ghost use Prim.Native.Nat.{_≤_};
 ghost use lib.ListN.{length};

@@ -9,7 +9,7 @@ use Rattle.laws.proofs.Lending.{Going, first, next, inside, fits, fits-first, e
 use Rattle.definition.specs.Logs.{eventBytes}
 use Rattle.definition.specs.declared.Event.{Event}
 use Rattle.steps.specs.Parts.{explicitEvents}
-use Rattle.steps.specs.Implied.{listEvents}
+use Rattle.implied.specs.Implied.{listEvents}
 use Rattle.steps.specs.Whole.{flagsRead, flagsWrite, logEvents}
 use Rattle.steps.proofs.log.put_log.Statement.{statement}
 use Rattle.steps.proofs.log.put_log.Tie as tie

@@ -1,0 +1,11 @@
+// What a part of an explicit operand does to registers and memory, written: no register file is asked.
+mod memory; // memory.rt: memory that it touches
+pub mod names; // names.rt: the registers that lists and specs name
+mod registers_of; // registers_of.rt: registers that it reads or writes
+
+pub use memory::put_access;
+pub use memory::put_deref;
+pub use memory::put_indexed;
+pub use registers_of::fourth_of;
+pub use registers_of::put_masked;
+pub use registers_of::put_plain;
