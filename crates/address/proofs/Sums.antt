@@ -13,11 +13,10 @@ use Rattle.registers.proofs.Values.{Below, value-word, inside}
 use Rattle.registers.specs.Banks.{isLogged}
 use Rattle.implicit.specs.Lists.{rdi, rsi, edi, esi}
 use lib.Dec.{lit≤}
-use Rattle.definition.specs.Addresses.{word, termOf, lowIf, placeOf, uncut, addressOf}
-use Rattle.definition.proofs.CutLast.{cut-last}
+use Rattle.definition.specs.Addresses.{word, termOf, lowIf, placeOf, addressOf}
 use Rattle.definition.specs.declared.Address.{Address}
 use Rattle.definition.specs.declared.Term.the-variants.{Absent, Plain, Scaled}
-use Rattle.address.specs.Places.{plusOf, sumOf, lowOf, cutOf, scaledOf}
+use Rattle.address.specs.Places.{plusOf, sumOf, lowOf, scaledOf}
 
 ap-low : (v : Value) → after v (λ a. Known (a / 2 ^ 0 % 2 ^ 32)) ≡ lowOf v
 ap-low (Known a) = ap Known (rw (div-one a))
@@ -94,15 +93,6 @@ module _ (f : RegisterFile) where
   pub low-rsi : valueOf f esi ≡ lowOf (valueOf f rsi)
   unfolding partOf isLogged
   low-rsi = inside f esi rsi 0 refl refl (lit≤ tt) ∙ ap-low (valueOf f rsi)
-
-  -- an address that is cut is the sum, cut
-  pub at-cut : (a : Address) → addressOf f a ≡ cutOf (a .cut) (addressOf f (uncut a))
-  at-cut a = cut-last f a ∙ by (a .cut) (addressOf f (uncut a))
-    where
-      by : (c : Bool) (v : Value) → after v (λ n. Known (lowIf c n)) ≡ cutOf c v
-      by true v = refl
-      by false (Known n) = refl
-      by false Unknown = refl
 
   -- an address is a word, and a base of 0 does not move it
   pub unmoved : (a : Address) → addressOf f a ≡ sumOf (Known 0) (addressOf f a)

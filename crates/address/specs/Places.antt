@@ -1,7 +1,7 @@
 -- What a file says of the registers that a record's addresses are made of, and sums of what is known.
 use Prim.Native.Nat.{ℕ, _+_, _*_, _^_, _%_}
+use mathlib.Core.Bool.{false}
 use mathlib.Core.List.{List, [], _∷_}
-use mathlib.Core.Bool.{Bool, false, cond}
 use Rattle.registers.specs.Files.{after, valueOf}
 use Rattle.registers.specs.declared.RegisterFile.{RegisterFile}
 use Rattle.registers.specs.declared.Value.{Value}
@@ -11,9 +11,9 @@ use Rattle.implicit.specs.declared.ImplicitOperand.{ImplicitOperand}
 use Rattle.implicit.specs.declared.ImplicitOperand.the-variants.{Register, MemDeref, Disp, MemBaseIndexScale}
 use Rattle.implicit.specs.declared.Entry.{Entry}
 use Rattle.implicit.specs.declared.Entry.the-variants.{Operand, Slot, End}
-use Rattle.record.specs.Records.{regAt}
+use Rattle.record.specs.Records.{regAt, addressSize}
 use Rattle.record.specs.declared.Record.{Record}
-use Rattle.definition.specs.Addresses.{word, signed32, addressOf, segmentRegister}
+use Rattle.definition.specs.Addresses.{word, signed32, lowIf, addressOf, segmentRegister}
 use Rattle.definition.specs.declared.Address.{Address}
 use Rattle.definition.specs.declared.Term.the-variants.{Absent, Plain, Scaled}
 use Rattle.address.specs.declared.places.Sources.{Sources}
@@ -28,12 +28,12 @@ sumOf u v = after u (λ a. plusOf v a)
 abbrev pub lowOf : Value → Value
 lowOf v = after v (λ a. Known (a % 2 ^ 32))
 
--- cut to its low 32 bits, or as it is
-abbrev pub cutOf : Bool → Value → Value
-cutOf c v = cond c (lowOf v) v
-
 abbrev pub scaledOf : Value → ℕ → Value
 scaledOf v k = after v (λ a. Known (a * k % word))
+
+-- where an explicit operand of a record lies, by its sum
+abbrev pub cutOf : Record → Value → Value
+cutOf x v = after v (λ a. Known (lowIf (addressSize x) a))
 
 -- where an implicit operand lies; a register lies nowhere, and there the others of its list decide
 unfoldable pub operandPlace : RegisterFile → Value → ImplicitOperand → Value

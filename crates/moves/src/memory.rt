@@ -1,5 +1,6 @@
 // Memory that an explicit operand touches: the registers of the address, the mask, then the access.
 use crate::registers_of::put_mask;
+use address::cut;
 use event::put_memory;
 use event::put_register;
 use implicit::Way;
@@ -25,7 +26,7 @@ fn is_stopped(x: Record, way: Way) -> bool
     }
 }
 
-// The access itself: the address of every explicit operand comes here last.
+// The access itself: the sum of every explicit operand comes here last, and is cut here.
 pub fn put_access(log: &mut [u8], x: Record, way: Way, at: Value) -> usize
     requires { ⌜ size eventBytes (accessEvents x way at) ≤ length (now log) ⌝ }
     ensures { λ r. ⌜ Logged eventBytes (accessEvents x way at) (now (log .entry)) (now (log .exit)) r ⌝ }
@@ -33,7 +34,7 @@ pub fn put_access(log: &mut [u8], x: Record, way: Way, at: Value) -> usize
     if is_stopped(x, way) {
         return 0;
     }
-    put_memory(log, way, at, x.size)
+    put_memory(log, way, cut(x, at), x.size)
 }
 
 // The one register of an address.

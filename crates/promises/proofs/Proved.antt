@@ -10,8 +10,7 @@ use Rattle.laws.specs.Tests.{firstOf}
 use Rattle.laws.proofs.Outcomes.{one-outcome}
 use Rattle.registers.specs.Files.{fileKind, basedKind, fileOf, isFile}
 use Rattle.record.specs.Records.{isRecord, recordOf, outside}
-use Rattle.definition.specs.Addresses.{operandAddress}
-use Rattle.definition.specs.Behaviors.{complex}
+use Rattle.definition.specs.use Rattle.definition.specs.Behaviors.{complex}
 use Rattle.definition.specs.Logs.{bytesOf}
 use Rattle.definition.specs.Refusals.{nameless, sizeless, noRoom}
 use Rattle.definition.specs.Visits.{fixedRecord, logOf, refusalOf, visitBy}
@@ -49,8 +48,7 @@ pub base-unknown-exactly : promised.BaseUnknownExactly
 base-unknown-exactly f s a = (based-to f s a, based-from f s a)
 
 pub cut-last : promised.CutLast
-unfolding operandAddress
-cut-last f x b i d = law.cut-last f (operandAddress x b i d)
+cut-last f x b i d = law.cut-last f x b i d
 
 pub log-is-short : promised.LogBytes
 log-is-short f x = log-bytes f x

@@ -19,7 +19,7 @@ use Rattle.implicit.specs.declared.Way.the-variants.{Read, Write}
 use Rattle.record.specs.Records.{regAt}
 use Rattle.record.specs.declared.Record.{Record}
 use Rattle.definition.specs.Tables.{shapes, shapeOf}
-use Rattle.definition.specs.Addresses.{signed32, termRegisters, registersOf, addressOf, baseOf, indexOf, offsetOf, operandAddress}
+use Rattle.definition.specs.Addresses.{signed32, termRegisters, registersOf, uncut, addressOf, baseOf, indexOf, offsetOf, operandAddress}
 use Rattle.definition.specs.Steps.{Step, reads, writes, touches, maskRegisters, maskSteps, maskFor, isLea, fourthOf, widened, readPart, writePart}
 use Rattle.definition.specs.Logs.{stepEvents, eventsOf, memoryEvent}
 use Rattle.definition.specs.declared.Address.{Address}
@@ -31,6 +31,7 @@ use Rattle.definition.specs.declared.Shape.{Shape}
 use Rattle.definition.specs.declared.Shape.the-variants.{Nothing, Register, Fourth, Immediate, Memory}
 use Rattle.definition.specs.declared.Event.{Event}
 use Rattle.definition.specs.declared.Event.the-variants.{RegisterRead}
+use Rattle.definition.proofs.CutLast.{cut-last}
 use Rattle.address.specs.Places.{sourcesOf}
 use Rattle.address.proofs.Sums.{at-register, at-disp, at-index, at-index-disp, at-both, at-both-disp, at-number, low-rdi, low-rsi}
 use Rattle.event.specs.Moves.{moved}
@@ -88,17 +89,17 @@ module _ (f : RegisterFile) (x : Record) where
 
   memory :
       (w : Way) (b : Base) (i : Bool) (d : Displacement) (m : Bool) {ys : List RegSpec} {v : Value}
-      → registersOf (operandAddress x b i d) ≡ ys → addressOf f (operandAddress x b i d) ≡ v
+      → registersOf (operandAddress x b i d) ≡ ys → addressOf f (uncut (operandAddress x b i d)) ≡ v
       → eventsOf f (partSteps w x (Memory b i d m)) ≡ memoryEvents w ys (maskFor x m) v
   unfolding partSteps readPart writePart accessEvents
-  memory Read b i d m p q = rw (← p, ← q) (by (isLea x))
+  memory Read b i d m p q = rw (← p, ← q, ← cut-last f x b i d) (by (isLea x))
     where
       by : (t : Bool)
           → eventsOf f (cond t (map reads (registersOf (operandAddress x b i d)) ++ map reads (maskRegisters (maskFor x m))) (touches Read (operandAddress x b i d) (maskFor x m) (x .size) ∷ []))
           ≡ flat (moved Read (registersOf (operandAddress x b i d)) ∷ moved Read (maskRegisters (maskFor x m)) ∷ cond t [] (memoryEvent Read (addressOf f (operandAddress x b i d)) (x .size) ∷ []) ∷ [])
       by true = stopped (registersOf (operandAddress x b i d)) (maskRegisters (maskFor x m))
       by false = touched Read (operandAddress x b i d) (maskFor x m) (x .size)
-  memory Write b i d m p q = rw (← p, ← q) (touched Write (operandAddress x b i d) (maskFor x m) (x .size))
+  memory Write b i d m p q = rw (← p, ← q, ← cut-last f x b i d) (touched Write (operandAddress x b i d) (maskFor x m) (x .size))
 
   -- in the pieces in which they are written
   one-register : (w : Way) (y : RegSpec) (m : ℕ) (v : Value) → memoryEvents w (y ∷ []) m v ≡ derefEvents x w y m v
@@ -116,17 +117,17 @@ module _ (f : RegisterFile) (x : Record) where
 
   deref :
       (w : Way) (b : Base) (i : Bool) (d : Displacement) (m : Bool) (y : RegSpec) (v : Value)
-      → registersOf (operandAddress x b i d) ≡ y ∷ [] → addressOf f (operandAddress x b i d) ≡ v
+      → registersOf (operandAddress x b i d) ≡ y ∷ [] → addressOf f (uncut (operandAddress x b i d)) ≡ v
       → eventsOf f (partSteps w x (Memory b i d m)) ≡ derefEvents x w y (maskFor x m) v
   deref w b i d m y v p q = memory w b i d m p q ∙ one-register w y (maskFor x m) v
 
   indexed :
-      (w : Way) (d : Displacement) (m : Bool) (v : Value) → addressOf f (operandAddress x Based true d) ≡ v
+      (w : Way) (d : Displacement) (m : Bool) (v : Value) → addressOf f (uncut (operandAddress x Based true d)) ≡ v
       → eventsOf f (partSteps w x (Memory Based true d m)) ≡ indexedEvents x w (maskFor x m) v
   unfolding registersOf operandAddress baseOf indexOf termRegisters
   indexed w d m v q = memory w Based true d m refl q ∙ two-registers w (maskFor x m) v
 
-  absolute : (w : Way) (d : Displacement) (v : Value) → addressOf f (operandAddress x NoBase false d) ≡ v → eventsOf f (partSteps w x (Memory NoBase false d false)) ≡ accessEvents x w v
+  absolute : (w : Way) (d : Displacement) (v : Value) → addressOf f (uncut (operandAddress x NoBase false d)) ≡ v → eventsOf f (partSteps w x (Memory NoBase false d false)) ≡ accessEvents x w v
   unfolding registersOf operandAddress baseOf indexOf termRegisters
   absolute w d v q = memory w NoBase false d false refl q ∙ no-register w v
 
