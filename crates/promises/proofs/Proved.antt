@@ -10,7 +10,7 @@ use Rattle.laws.specs.Tests.{firstOf}
 use Rattle.laws.proofs.Outcomes.{one-outcome}
 use Rattle.registers.specs.Files.{fileKind, basedKind, fileOf, isFile}
 use Rattle.record.specs.Records.{isRecord, recordOf, outside}
-use Rattle.definition.specs.use Rattle.definition.specs.Behaviors.{complex}
+use Rattle.definition.specs.Behaviors.{complex}
 use Rattle.definition.specs.Logs.{bytesOf}
 use Rattle.definition.specs.Refusals.{nameless, sizeless, noRoom}
 use Rattle.definition.specs.Visits.{fixedRecord, logOf, refusalOf, visitBy}
