@@ -1,7 +1,7 @@
 //! Register files: a builder, and a look inside.
 use crate::calls::visit;
-use crate::refusal::Refusal;
 use crate::item::length_of;
+use crate::refusal::Refusal;
 use crate::{BASED_FILE_BYTES, FILE_BYTES, RECORD_BYTES};
 use core::ops::Deref;
 

@@ -75,7 +75,8 @@ impl Register {
         Register { bank: 1, number }
     }
 
-    /// Whether the bank and the number stand in the table.
+    /// Whether the bank and the number stand in the table, and an event may name it. A record may name it too, but for the bases of
+    /// fs and gs.
     pub fn exists(self) -> bool {
         match BANKS.get(usize::from(self.bank)) {
             Some((_, Own(names))) => usize::from(self.number) < names.len(),
