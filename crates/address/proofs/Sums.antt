@@ -3,17 +3,17 @@ use Prim.Native.Nat.{ℕ, _+_, _*_, _^_, _/_, _%_}
 use native.Mathlib.Nat.{div-one}
 use native.Mathlib.Omega.{arith}
 use mathlib.Core.Path.{_≡_, refl, ap, _∙_}
-use mathlib.Core.Bool.{false}
+use mathlib.Core.Bool.{Bool, true, false}
 use Rattle.registers.specs.Files.{after, partOf, valueOf}
 use Rattle.registers.specs.declared.RegSpec.{RegSpec}
 use Rattle.registers.specs.declared.RegisterFile.{RegisterFile}
 use Rattle.registers.specs.declared.Value.{Value}
 use Rattle.registers.specs.declared.Value.the-variants.{Known, Unknown}
 use Rattle.registers.proofs.Values.{Below, value-word, inside}
-use Rattle.registers.specs.Banks.{isRegister}
+use Rattle.registers.specs.Banks.{isLogged}
 use Rattle.implicit.specs.Lists.{rdi, rsi, edi, esi}
 use lib.Dec.{lit≤}
-use Rattle.definition.specs.Addresses.{word, termOf, placeOf, addressOf}
+use Rattle.definition.specs.Addresses.{word, termOf, lowIf, placeOf, addressOf}
 use Rattle.definition.specs.declared.Address.{Address}
 use Rattle.definition.specs.declared.Term.the-variants.{Absent, Plain, Scaled}
 use Rattle.address.specs.Places.{plusOf, sumOf, lowOf, scaledOf}
@@ -87,9 +87,22 @@ module _ (f : RegisterFile) where
 
   -- the low half of a general register
   pub low-rdi : valueOf f edi ≡ lowOf (valueOf f rdi)
-  unfolding partOf isRegister
+  unfolding partOf isLogged
   low-rdi = inside f edi rdi 0 refl refl (lit≤ tt) ∙ ap-low (valueOf f rdi)
 
   pub low-rsi : valueOf f esi ≡ lowOf (valueOf f rsi)
-  unfolding partOf isRegister
+  unfolding partOf isLogged
   low-rsi = inside f esi rsi 0 refl refl (lit≤ tt) ∙ ap-low (valueOf f rsi)
+
+  -- an address is a word, and a base of 0 does not move it
+  pub unmoved : (a : Address) → addressOf f a ≡ sumOf (Known 0) (addressOf f a)
+  unfolding addressOf placeOf
+  unmoved a = by (a .cut) (termOf f (a .base)) (termOf f (a .index))
+    where
+      by : (c : Bool) (u v : Value)
+          → after u (λ m. after v (λ n. Known (lowIf c ((m + n + a .offset) % word))))
+          ≡ plusOf (after u (λ m. after v (λ n. Known (lowIf c ((m + n + a .offset) % word))))) 0
+      by true (Known m) (Known n) = ap Known (omega arith)
+      by false (Known m) (Known n) = ap Known (omega arith)
+      by c (Known m) Unknown = refl
+      by c Unknown v = refl

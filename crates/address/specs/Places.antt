@@ -13,7 +13,7 @@ use Rattle.implicit.specs.declared.Entry.{Entry}
 use Rattle.implicit.specs.declared.Entry.the-variants.{Operand, Slot, End}
 use Rattle.record.specs.Records.{regAt, addressSize}
 use Rattle.record.specs.declared.Record.{Record}
-use Rattle.definition.specs.Addresses.{word, signed32, lowIf, addressOf}
+use Rattle.definition.specs.Addresses.{word, signed32, lowIf, addressOf, segmentRegister}
 use Rattle.definition.specs.declared.Address.{Address}
 use Rattle.definition.specs.declared.Term.the-variants.{Absent, Plain, Scaled}
 use Rattle.address.specs.declared.places.Sources.{Sources}
@@ -64,4 +64,5 @@ sourcesOf f x =
       rdi = valueOf f rdi;
       rsi = valueOf f rsi;
       implied = impliedPlace f (x .digest .extra);
+      segment = valueOf f (segmentRegister (x .segment));
     }

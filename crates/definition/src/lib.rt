@@ -13,11 +13,13 @@ pub enum Shape {
     Memory(Base, bool, Displacement, bool),
 }
 
-// The base of a memory spec: none, `regs[1]`, or a register that the spec names.
+// The base of a memory spec: none, `regs[1]`, or a register that the spec names, as a place or as the destination of a string
+// instruction, to which no segment applies.
 pub enum Base {
     NoBase,
     Based,
     Named(RegSpec),
+    Destination(RegSpec),
 }
 
 // The displacement of a memory spec: none, the low 32 bits sign-extended, the whole, the low 32 bits zero-extended.

@@ -8,4 +8,5 @@ pub mod Unknown
 pub mod Opened
 pub mod Tables
 pub mod Wrong
+pub mod OldKinds
 pub mod Proved

@@ -7,6 +7,7 @@ use Rattle.promises.specs.Bench.{bench}
 use Rattle.promises.specs.Beyond.{widening, masking, leas, ordering, addressing, cutting, malformed, refusing}
 use Rattle.promises.specs.Answers.{listings, digestFor, digests, exceptionsFor, exceptions, privilegeFor, privileges, readingFrom, readings, numbersOf, answer-numbers, reading-numbers, digestNumbers, digest-numbers, infoNumbers, info-numbers, mayNumbers, may-numbers, privilegeNumbers, privilege-numbers, level-numbers, fileFor, files, recordFor, records, entryFor, entries, any-none, any-rows, vectors, vector-rows, vectors-after, chain-rows, may, may-rows, setter, setter-rows}
 use Rattle.promises.specs.Sweeps.{every-list, every-spec-read, every-spec-written, fixedBy, every-opcode, namedIn, every-bank, mulOf, every-width, valueIn, every-value, atSize0, every-memory-list}
+use Rattle.promises.specs.Segments.{segments, refused-kinds, base-readings, basesIn, base-files}
 use Rattle.promises.proofs.Opened.{opened}
 
 pub bench-holds : Visited bench
@@ -44,6 +45,22 @@ malformed-holds = refl
 pub refusing-holds : Visited refusing
 unfolding opened refusing
 refusing-holds = refl
+
+pub segments-hold : Visited segments
+unfolding opened segments
+segments-hold = refl
+
+pub refused-kinds-hold : Visited refused-kinds
+unfolding opened refused-kinds
+refused-kinds-hold = refl
+
+pub base-readings-hold : Table readingFrom base-readings
+unfolding opened base-readings
+base-readings-hold = refl
+
+pub base-files-hold : Table basesIn base-files
+unfolding opened base-files
+base-files-hold = refl
 
 pub listings-hold : Listed listings
 unfolding opened listings

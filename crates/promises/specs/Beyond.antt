@@ -4,7 +4,7 @@ use Prim.Native.Nat.{_+_, _-_, _*_}
 use mathlib.Core.List.{List, [], _∷_}
 use Rattle.definition.specs.Limits.{mostBytes, mostEvents}
 use Rattle.definition.specs.declared.Answer.the-variants.{Done, Refused, Complex, Short}
-use Rattle.promises.specs.Rows.{put, long, opcode, count, specs, regs, size, scale, disp, imm, prefixes, mask, behavior, access, list, knows, Q, D, W, B, K, RFLAGS, Nothing, RegRRR, RegMMM, RegVex, Reg4, RegRRR-maskmerge, Deref, Deref-mask, Deref-rdi, Deref-rsi, Deref-edi, Disp, MemIndexScale, MemBaseIndexScale, MemBaseIndexScale-mask, MemBaseIndexScaleDisp, DispU64, DispU32, log, reads, writes, loads, stores, loads-unknown, stores-unknown, Row, rowIn, row}
+use Rattle.promises.specs.Rows.{put, long, plain-opcode, opcode, count, specs, regs, size, scale, disp, imm, prefixes, mask, behavior, access, list, knows, Q, D, W, B, K, RFLAGS, Nothing, RegRRR, RegMMM, RegVex, Reg4, RegRRR-maskmerge, Deref, Deref-mask, Deref-rdi, Deref-rsi, Deref-edi, Disp, MemIndexScale, MemBaseIndexScale, MemBaseIndexScale-mask, MemBaseIndexScaleDisp, DispU64, DispU32, log, reads, writes, loads, stores, loads-unknown, stores-unknown, Row, rowIn, row}
 use Rattle.promises.specs.Bench.{P2, P2-file, P2-log, P5, P5-file}
 use Rattle.promises.specs.Fullest.{fullest-fields, fullest-known, fullest-log}
 
@@ -174,7 +174,7 @@ refusing =
     ∷ row (opcode 23 ∷ behavior 0x20 ∷ specs (RegMMM ∷ []) ∷ []) [] (Complex 23) []
     ∷ row (opcode 28 ∷ behavior 0x20 ∷ specs (RegMMM ∷ []) ∷ []) [] (Complex 28) []
     -- 4 before 5
-    ∷ row (behavior 0x20 ∷ specs (Nothing ∷ []) ∷ []) [] (Complex 40) []
+    ∷ row (behavior 0x20 ∷ specs (Nothing ∷ []) ∷ []) [] (Complex plain-opcode) []
     -- Nothing: with an access below count
     ∷ row (specs (Nothing ∷ []) ∷ []) [] (Refused 5) []
     ∷ row (specs (Nothing ∷ []) ∷ access 0x02 ∷ []) [] (Refused 5) []

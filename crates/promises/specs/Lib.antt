@@ -6,4 +6,5 @@ pub mod Beyond
 pub mod Answers
 pub mod Sweeps
 pub mod Fullest
+pub mod Segments
 pub mod Promises

@@ -1,17 +1,19 @@
 -- What a record that is not refused keeps to, for those who call. Assumes nothing.
-use Prim.Native.Nat.{ℕ, _≤_}
+use Prim.Native.Nat.{ℕ, _<_, _≤_}
+use native.Mathlib.Omega.{arith}
 use native.Mathlib.Omega.{arith}
 use mathlib.Core.Path.{_≡_, refl, sym, ap, _∙_}
 use mathlib.Core.List.{List, [], _∷_}
 use mathlib.Core.Bool.{Bool, true, false, not, cond, _||_, or-assoc, or-false}
 use lib.ListN.{length, getD}
 use lib.Dec.{eqb, ltb, lit≤}
-use borrow.Author.Tests.{eqb-true, ltb-false, not-false}
-use Rattle.laws.proofs.Choice.{and-left}
+use borrow.Author.Tests.{eqb-true, ltb-true, ltb-false, not-false, eq-eqb, ne-eqb, lt-ltb, le-ltb}
+use Rattle.laws.specs.Tests.{firstOf}
+use Rattle.laws.proofs.Choice.{and-left, and-right}
 use Rattle.laws.proofs.Every.{Every, every-at, every-weaken, any-false, first-zero}
 use Rattle.registers.specs.Banks.{reg, isRegister}
 use Rattle.registers.specs.declared.RegSpec.{RegSpec}
-use Rattle.record.specs.Records.{isRecord, recordOf, outside, recordRefusal, recordAnswer, noRecord, specAt, regAt}
+use Rattle.record.specs.Records.{recordKind, segmentKind, recordBytes, segmentBytes, recordLength, isRecord, recordOf, outside, recordRefusal, recordAnswer, noRecord, specAt, regAt}
 use Rattle.record.specs.declared.Record.{Record}
 use Rattle.record.specs.declared.RecordAnswer.{RecordAnswer}
 
@@ -37,6 +39,7 @@ pub record Inside (x : Record) : Type 0 where
   pub prefixes : x .prefixes ≤ 15
   pub mask : x .mask ≤ 7
   pub extra : x .digest .extra ≤ 28
+  pub segment : x .segment ≤ 2
 
 pub inside : (x : Record) → outside x ≡ false → Inside x
 unfolding outside
@@ -56,6 +59,7 @@ inside x e =
       prefixes = ltb-false 15 (x .prefixes) (t .1 .1 .1 .1 .0);
       mask = ltb-false 7 (x .mask) (t .1 .1 .1 .1 .1 .0);
       extra = ltb-false 28 (x .digest .extra) (t .1 .1 .1 .1 .1 .1 .0);
+      segment = ltb-false 2 (x .segment) (t .1 .1 .1 .1 .1 .1 .1 .0);
     }
 
 -- the same of operand i, past the fourth too
@@ -66,10 +70,41 @@ pub reg-inside : {x : Record} → Inside x → (i : ℕ) → isRegister (regAt x
 unfolding isRegister
 reg-inside {x} h i = every-at (λ (y : RegSpec). isRegister (y .bank) (y .number) ≡ true) (x .regs) (reg 0 0) (h .regs) refl i
 
--- a record has 40 bytes
-pub forty : (b : List ℕ) → isRecord b ≡ true → length b ≡ 40
+-- a kind's length is no less than that of the first kind
+kind-long : (k n : ℕ) → 0 < n → n ≡ recordLength k → recordBytes ≤ n
+unfolding recordLength
+kind-long k n h e = by (eqb k recordKind) (eqb k segmentKind) e
+  where
+    by : (s t : Bool) → n ≡ cond s recordBytes (cond t segmentBytes 0) → recordBytes ≤ n
+    by true t e = omega arith
+    by false true e = omega arith
+    by false false e = absurd (omega (arith, h, e))
+
+pub record-long : (b : List ℕ) → isRecord b ≡ true → recordBytes ≤ length b
 unfolding isRecord
-forty b e = eqb-true (length b) 40 (and-left (eqb (length b) 40) (eqb (getD b 0 0) 0x10) e)
+record-long b e =
+    let some = ltb 0 (length b) in
+    let long = eqb (length b) (recordLength (getD b 0 0)) in
+    kind-long (getD b 0 0) (length b) (ltb-true 0 (length b) (and-left some long e)) (eqb-true (length b) (recordLength (getD b 0 0)) (and-right some long e))
+
+-- The refusal, test by test
+module _ (b : List ℕ) where
+  pub refused-empty : length b ≡ 0 → 1 ≡ recordRefusal b
+  unfolding recordRefusal firstOf isRecord
+  refused-empty e = rw (le-ltb 0 (length b) (omega arith))
+
+  module _ (some : length b ≡ 0 → ⊥) {n : ℕ} (e : n ≡ recordLength (getD b 0 0)) where
+    pub refused-length : (length b ≡ n → ⊥) → 1 ≡ recordRefusal b
+    unfolding recordRefusal firstOf isRecord
+    refused-length ne = rw (lt-ltb 0 (length b) (omega (arith, some)), ne-eqb (length b) (recordLength (getD b 0 0)) (λ (q : length b ≡ recordLength (getD b 0 0)). ne (q ∙ sym e)))
+
+    module _ (long : length b ≡ n) where
+      pub has-fields : recordBytes ≤ length b
+      has-fields = kind-long (getD b 0 0) (length b) (omega (arith, some)) (long ∙ e)
+
+      pub by-fields : {t : Bool} → t ≡ outside (recordOf b) → cond t 2 0 ≡ recordRefusal b
+      unfolding recordRefusal firstOf isRecord
+      by-fields p = rw (p, lt-ltb 0 (length b) (omega (arith, some)), eq-eqb (length b) (recordLength (getD b 0 0)) (long ∙ e))
 
 -- what it is that is not refused
 pub record Passed (b : List ℕ) : Type 0 where

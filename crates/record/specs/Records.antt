@@ -1,4 +1,4 @@
--- A record of kind 0x10, from its 40 bytes.
+-- A record, from its bytes.
 use Prim.Native.Nat.{ℕ, _+_}
 use mathlib.Core.List.{List, [], _∷_}
 use mathlib.Core.Bool.{Bool, not, cond, _&&_}
@@ -12,13 +12,31 @@ use Rattle.digest.specs.Digests.{emptyDigest}
 use Rattle.record.specs.declared.Record.{Record}
 use Rattle.record.specs.declared.RecordAnswer.{RecordAnswer}
 
--- refusal 1 where this fails
+-- the kinds of records, and their lengths: the second has one byte more, which names a segment
+abbrev pub recordKind : ℕ
+recordKind = 0x10
+
+abbrev pub segmentKind : ℕ
+segmentKind = 0x11
+
+abbrev pub recordBytes : ℕ
+recordBytes = 40
+
+abbrev pub segmentBytes : ℕ
+segmentBytes = recordBytes + 1
+
+-- by kind, 0 for no kind
+unfoldable pub recordLength : ℕ → ℕ
+recordLength k = cond (eqb k recordKind) recordBytes (cond (eqb k segmentKind) segmentBytes 0)
+
+-- refusal 1 where this fails: a kind, and its length
 unfoldable pub isRecord : List ℕ → Bool
-isRecord b = eqb (length b) 40 && eqb (getD b 0 0) 0x10
+isRecord b = ltb 0 (length b) && eqb (length b) (recordLength (getD b 0 0))
 
 abbrev pub regFrom : List ℕ → ℕ → RegSpec
 regFrom b i = reg (getD b i 0) (getD b (i + 1) 0)
 
+-- the segment is 0 for none, 1 for fs, 2 for gs; a record without its byte names none
 unfoldable pub recordOf : List ℕ → Record
 recordOf b =
     record {
@@ -33,6 +51,7 @@ recordOf b =
       prefixes = getD b 34 0;
       mask = getD b 35 0;
       digest = record { behavior = getD b 36 0; operands = getD b 37 0; extra = numberAt b 38 2 };
+      segment = getD b recordBytes 0;
     }
 
 -- refusal 2
@@ -46,6 +65,7 @@ outside x =
     ∷ ltb 15 (x .prefixes)
     ∷ ltb 7 (x .mask)
     ∷ ltb 28 (x .digest .extra)
+    ∷ ltb 2 (x .segment)
     ∷ [])
 
 -- the tests that every call makes first, of the bytes of a record alone
@@ -71,6 +91,7 @@ noRecord =
       prefixes = 0;
       mask = 0;
       digest = emptyDigest;
+      segment = 0;
     }
 
 abbrev pub refusedRecord : ℕ → RecordAnswer

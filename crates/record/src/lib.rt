@@ -1,4 +1,4 @@
-// A record of one instruction, from its 40 bytes.
+// A record of one instruction, from its bytes.
 use digest::BehaviorDigest;
 use registers::RegSpec;
 ghost use mathlib.Core.Path.{_≡_};
@@ -10,7 +10,16 @@ ghost use lib.Dec.{ltb};
 ghost use Rattle.laws.specs.Words.{bit};
 ghost use Rattle.laws.specs.Tests.{any};
 ghost use Rattle.registers.specs.Banks.{isRegister};
-ghost use Rattle.record.specs.Records.{regFrom, recordOf, outside, recordRefusal, refusedRecord, recordAnswer, specAt, regAt, vexW, rexW, operandSize, addressSize};
+ghost use Rattle.record.specs.Records.{recordBytes, recordLength, regFrom, recordOf, outside, recordRefusal, refusedRecord, recordAnswer, specAt, regAt, vexW, rexW, operandSize, addressSize};
+
+// The kinds of records and their lengths: the second names a segment behind what the first has.
+pub const RECORD_KIND: u8 = 0x10;
+
+pub const SEGMENT_KIND: u8 = 0x11;
+
+pub const RECORD_BYTES: usize = 40;
+
+pub const SEGMENT_BYTES: usize = RECORD_BYTES + 1;
 
 // The fields of a record, in their order: `size` is document 01's `mem_size`.
 pub struct Record {
@@ -25,6 +34,7 @@ pub struct Record {
     pub prefixes: u8,
     pub mask: u8,
     pub digest: BehaviorDigest,
+    pub segment: u8,
 }
 
 // A record, or a refusal number and a record whose numbers are all 0.
@@ -34,7 +44,7 @@ pub struct RecordAnswer {
 }
 
 impl Record {
-    // The record in 40 bytes, or refusal 1 or 2.
+    // The record in its bytes, or refusal 1 or 2.
     pub fn from_bytes(b: &[u8]) -> RecordAnswer
         ensures { λ r. ⌜ r ≡ recordAnswer (now (b .entry)) ⌝ }
     {
@@ -71,6 +81,7 @@ impl Record {
             prefixes: 0,
             mask: 0,
             digest: digest,
+            segment: 0,
         };
         RecordAnswer {
             number: number,
@@ -79,7 +90,7 @@ impl Record {
     }
 
     pub fn parse(b: &[u8]) -> Record
-        requires { ⌜ length (now b) ≡ 40 ⌝ }
+        requires { ⌜ recordBytes ≤ length (now b) ⌝ }
         ensures { λ r. ⌜ r ≡ recordOf (now (b .entry)) ⌝ }
     {
         let specs = [b[4], b[5], b[6], b[7]];
@@ -106,6 +117,7 @@ impl Record {
             prefixes: b[34],
             mask: b[35],
             digest: digest,
+            segment: segment_in(b),
         }
     }
 
@@ -160,14 +172,28 @@ impl Record {
     }
 }
 
+// The length of a record by its kind, 0 for no kind.
+pub fn length_of(kind: u8) -> usize
+    ensures { λ r. ⌜ r ≡ recordLength kind ⌝ }
+{
+    if kind == RECORD_KIND {
+        return RECORD_BYTES;
+    }
+    if kind == SEGMENT_KIND {
+        SEGMENT_BYTES
+    } else {
+        0
+    }
+}
+
 // The refusal of a record's bytes: 1 or 2, or 0.
 pub fn refusal_of(b: &[u8]) -> u8
     ensures { λ r. ⌜ r ≡ recordRefusal (now (b .entry)) ⌝ }
 {
-    if b.len() != 40 {
+    if b.len() == 0 {
         return 1;
     }
-    if b[0] != 0x10 {
+    if b.len() != length_of(b[0]) {
         return 1;
     }
     if is_outside(b) {
@@ -195,6 +221,17 @@ fn has_bit(v: u8, k: u8) -> bool
     (v >> k) % 2 == 1
 }
 
+// The segment, none in a kind that has no byte for it.
+fn segment_in(b: &[u8]) -> u8
+    ensures { λ r. ⌜ r ≡ getD (now (b .entry)) recordBytes 0 ⌝ }
+{
+    if RECORD_BYTES < b.len() {
+        b[RECORD_BYTES]
+    } else {
+        0
+    }
+}
+
 fn reg_from(b: &[u8], i: usize) -> RegSpec
     requires { ⌜ i + 2 ≤ length (now b) ⌝ }
     ensures { λ r. ⌜ r ≡ regFrom (now (b .entry)) i ⌝ }
@@ -207,7 +244,7 @@ fn reg_from(b: &[u8], i: usize) -> RegSpec
 
 // Whether some number of a record is outside its table. All tests are made, so that no branch is taken between them.
 fn is_outside(b: &[u8]) -> bool
-    requires { ⌜ length (now b) ≡ 40 ⌝ }
+    requires { ⌜ recordBytes ≤ length (now b) ⌝ }
     ensures { λ r. ⌜ r ≡ outside (recordOf (now (b .entry))) ⌝ }
 {
     (4 < b[3])
@@ -217,17 +254,18 @@ fn is_outside(b: &[u8]) -> bool
         | (15 < b[34])
         | (7 < b[35])
         | (28 < laws::u16_at(b, 38))
+        | (2 < segment_in(b))
 }
 
 fn has_bad_spec(b: &[u8]) -> bool
-    requires { ⌜ length (now b) ≡ 40 ⌝ }
+    requires { ⌜ recordBytes ≤ length (now b) ⌝ }
     ensures { λ r. ⌜ r ≡ any (λ s. ltb 35 s) (recordOf (now (b .entry)) .specs) ⌝ }
 {
     (35 < b[4]) | (35 < b[5]) | (35 < b[6]) | (35 < b[7])
 }
 
 fn has_bad_reg(b: &[u8]) -> bool
-    requires { ⌜ length (now b) ≡ 40 ⌝ }
+    requires { ⌜ recordBytes ≤ length (now b) ⌝ }
     ensures { λ r. ⌜ r ≡ any (λ y. not (isRegister (y .bank) (y .number))) (recordOf (now (b .entry)) .regs) ⌝ }
 {
     is_bad(b[8], b[9]) | is_bad(b[10], b[11]) | is_bad(b[12], b[13]) | is_bad(b[14], b[15])

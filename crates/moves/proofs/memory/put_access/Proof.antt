@@ -17,10 +17,13 @@ returns c = rw (sym (c .before .is-stopped .ensures) ∙ c .if1 .taken) (silent 
 cut-requires : tie.Need-cut-requires
 cut-requires c κs = search needs
 
+sum-requires : tie.Need-sum-requires
+sum-requires c κs = search needs
+
 put-memory-requires : tie.Need-put-memory-requires
 unfolding accessEvents
 put-memory-requires c κs =
-    rw (c .cut .ensures) (rw (sym (c .before .before .before .is-stopped .ensures) ∙ c .before .before .if1 .left) at (c .before .before .before .before .before .pre))
+    rw (c .sum .ensures, c .before .cut .ensures) (rw (sym (c .before .before .before .before .is-stopped .ensures) ∙ c .before .before .before .if1 .left) at (c .before .before .before .before .before .before .pre))
 
 same-length : tie.Need-same-length
 same-length c = search needs
@@ -28,7 +31,7 @@ same-length c = search needs
 returns-2 : tie.Need-returns-2
 unfolding accessEvents
 returns-2 c =
-    rw (sym (c .before .before .before .before .before .before .is-stopped .ensures) ∙ c .before .before .before .before .before .if1 .left, ← c .before .before .before .cut .ensures) (c .before .before .put-memory .ensures)
+    rw (sym (c .before .before .before .before .before .before .before .is-stopped .ensures) ∙ c .before .before .before .before .before .before .if1 .left, ← c .before .before .before .before .cut .ensures, ← c .before .before .before .sum .ensures) (c .before .before .put-memory .ensures)
 
 pub put-access-spec : {M : Type 1} → statement M
 put-access-spec =
@@ -37,6 +40,7 @@ put-access-spec =
     is-stopped-requires
     returns
     cut-requires
+    sum-requires
     put-memory-requires
     same-length
     returns-2)

@@ -60,9 +60,12 @@ shared-slice-read-t12-2 c = search needs
 shared-slice-read-t27 : tie.Need-shared-slice-read-t27
 shared-slice-read-t27 c = search needs
 
+segment-in-requires : tie.Need-segment-in-requires
+segment-in-requires c κs = search needs
+
 returns : tie.Need-returns
 unfolding recordOf
-returns c = rw (c .before .before .before .before .before .before .before .before .before .before .before .before .before .before .reg-from .ensures, c .before .before .before .before .before .before .before .before .before .before .before .before .before .reg-from2 .ensures, c .before .before .before .before .before .before .before .before .before .before .before .before .reg-from3 .ensures, c .before .before .before .before .before .before .before .before .before .before .before .reg-from4 .ensures, c .before .before .before .before .before .before .before .before .u16-at .ensures, c .before .before .before .before .before .before .before .u16-at2 .ensures, c .before .before .before .u64-at .ensures, c .before .before .u64-at2 .ensures)
+returns c = rw (c .before .before .before .before .before .before .before .before .before .before .before .before .before .before .before .reg-from .ensures, c .before .before .before .before .before .before .before .before .before .before .before .before .before .before .reg-from2 .ensures, c .before .before .before .before .before .before .before .before .before .before .before .before .before .reg-from3 .ensures, c .before .before .before .before .before .before .before .before .before .before .before .before .reg-from4 .ensures, c .before .before .before .before .before .before .before .before .before .u16-at .ensures, c .before .before .before .before .before .before .before .before .u16-at2 .ensures, c .before .before .before .before .u64-at .ensures, c .before .before .before .u64-at2 .ensures, c .segment-in .ensures)
 
 pub parse-spec : {M : Type 1} → statement M
 parse-spec =
@@ -87,4 +90,5 @@ parse-spec =
     u64-at-requires-2
     shared-slice-read-t12-2
     shared-slice-read-t27
+    segment-in-requires
     returns)
