@@ -1,5 +1,6 @@
 // What users call: every call takes bytes and answers one number, whose bits crate answers names. No call requires anything.
 mod calls; // calls.rt: the calls on a record and on a log, exported as C
+mod sessions; // sessions.rt: the calls on a log session, whose words a C caller keeps
 mod watches; // watches.rt: the calls on a watch, whose words a C caller keeps
 
 pub use calls::machhurel_difference;
@@ -9,6 +10,8 @@ pub use calls::machhurel_exceptions;
 pub use calls::machhurel_listing;
 pub use calls::machhurel_privilege;
 pub use calls::machhurel_visit;
+pub use sessions::machhurel_append;
+pub use sessions::machhurel_reset;
 pub use watches::machhurel_verdict;
 pub use watches::machhurel_watch_new;
 pub use watches::machhurel_watch_step;

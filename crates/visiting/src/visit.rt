@@ -9,13 +9,14 @@ ghost use mathlib.Core.Bool.{false};
 ghost use Prim.Native.Nat.{_≤_};
 ghost use lib.ListN.{length};
 ghost use Rattle.definition.specs.Behaviors.{complex};
+ghost use Rattle.definition.specs.Limits.{mostBytes};
 ghost use Rattle.definition.specs.Refusals.{nameless, sizeless};
 ghost use Rattle.definition.specs.Visits.{visitUnder, visitOf};
 ghost use Rattle.visiting.specs.Records.{firstRefusal, visitRecord};
 ghost use Rattle.visiting.specs.Laying.{Within, laidOut};
 
 // No log is longer.
-pub const MOST_BYTES: usize = 177;
+pub const MOST_BYTES: usize = 201;
 
 // Refusals 4, 5 and 6 of a record after fix-ups, in their order.
 fn refusal_of(x: Record) -> u8
@@ -35,7 +36,7 @@ fn refusal_of(x: Record) -> u8
 
 // A record after fix-ups, where the longest log has room.
 fn visit_record(fixed: Record, f: RegisterFile, log: &mut [u8]) -> Answer
-    requires { ⌜ 177 ≤ length (now log) ⌝ }
+    requires { ⌜ mostBytes ≤ length (now log) ⌝ }
     ensures { λ r. ⌜ (r, now (log .exit)) ≡ visitRecord fixed f (now (log .entry)) 0 ⌝ }
 {
     let refusal = refusal_of(fixed);
@@ -49,9 +50,9 @@ fn visit_record(fixed: Record, f: RegisterFile, log: &mut [u8]) -> Answer
     }
 }
 
-// Where the longest log has room. The file is parsed where it is asked: seventeen values held over the refusals would be copied twice.
+// Where the longest log has room. The file is parsed where it is asked: its values held over the refusals would be copied twice.
 fn visit_roomy(b: &[u8], file: &[u8], log: &mut [u8]) -> Answer
-    requires { ⌜ 177 ≤ length (now log) ⌝ }
+    requires { ⌜ mostBytes ≤ length (now log) ⌝ }
     ensures { λ r. ⌜ (r, now (log .exit)) ≡ visitOf (now (b .entry)) (now (file .entry)) (now (log .entry)) 0 ⌝ }
 {
     let unread = record::refusal_of(b);
@@ -76,7 +77,7 @@ fn visit_roomy(b: &[u8], file: &[u8], log: &mut [u8]) -> Answer
 }
 
 fn visit_roomy_under(b: &[u8], f: RegisterFile, log: &mut [u8]) -> Answer
-    requires { ⌜ 177 ≤ length (now log) ⌝ }
+    requires { ⌜ mostBytes ≤ length (now log) ⌝ }
     ensures { λ r. ⌜ (r, now (log .exit)) ≡ visitUnder (now (b .entry)) f (now (log .entry)) 0 ⌝ }
 {
     let unread = record::refusal_of(b);

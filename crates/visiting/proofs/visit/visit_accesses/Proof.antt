@@ -2,6 +2,7 @@ use mathlib.Core.Path.{sym, _∙_}
 use denote.Ref.{now}
 use lib.ListN.{length}
 use mathlib.Core.Bool.{not}
+use Rattle.definition.specs.Limits.{mostBytes}
 use Rattle.registers.specs.Files.{fileOf, isFile}
 use Rattle.laws.proofs.Room.{starts-inside}
 use Rattle.visiting.proofs.Rooms.{has-lent, lent-on}
@@ -16,10 +17,10 @@ visit-tight-requires : tie.Need-visit-tight-requires
 visit-tight-requires c κs = search needs
 
 sub-visit-roomy : tie.Need-sub-visit-roomy
-sub-visit-roomy c = starts-inside 177 (c .before .before .before .before .before .args .start) (length (now (c .before .before .before .before .before .args .log))) (sym (c .before .lacks-room .ensures) ∙ c .if1 .left)
+sub-visit-roomy c = starts-inside mostBytes (c .before .before .before .before .before .args .start) (length (now (c .before .before .before .before .before .args .log))) (sym (c .before .lacks-room .ensures) ∙ c .if1 .left)
 
 part-visit-roomy-start : tie.Need-part-visit-roomy-start
-part-visit-roomy-start c = starts-inside 177 (c .before .before .before .before .before .args .start) (length (now (c .before .before .before .before .before .args .log))) (sym (c .before .lacks-room .ensures) ∙ c .if1 .left)
+part-visit-roomy-start c = starts-inside mostBytes (c .before .before .before .before .before .args .start) (length (now (c .before .before .before .before .before .args .log))) (sym (c .before .lacks-room .ensures) ∙ c .if1 .left)
 
 part-visit-roomy-end : tie.Need-part-visit-roomy-end
 part-visit-roomy-end c = search needs

@@ -3,8 +3,8 @@ use mathlib.Core.Path.{refl, sym, _∙_}
 use denote.Ref.{now}
 use mathlib.Core.Bool.{not}
 use Rattle.registers.specs.Files.{fileOf, isFile}
-use Rattle.registers.proofs.Answers.{file-length}
-use Rattle.record.proofs.Laws.{forty, passed}
+use Rattle.registers.proofs.Answers.{file-long}
+use Rattle.record.proofs.Laws.{record-long, passed}
 use Rattle.visiting.proofs.Calls.{bad-record, bad-file, visited-file}
 use Rattle.visiting.proofs.Visits.{fits, done, is-complex, is-refused}
 use Rattle.visiting.proofs.visit.visit_roomy.Statement.{statement}
@@ -23,7 +23,7 @@ returns-2 : tie.Need-returns-2
 returns-2 c = bad-file (now (c .before .before .before .before .before .before .before .args .b)) (now (c .before .before .before .before .before .before .before .args .log)) 0 (now (c .before .before .before .before .before .before .before .args .file)) (c .before .before .before .refusal-of .ensures) (c .before .before .if1 .left) (c .before .refusal-of2 .ensures) (c .if2 .taken)
 
 parse-requires : tie.Need-parse-requires
-parse-requires c κs = forty (now (c .before .before .before .before .before .before .before .args .b)) (passed (now (c .before .before .before .before .before .before .before .args .b)) (sym (c .before .before .before .refusal-of .ensures) ∙ c .before .before .if1 .left) .is)
+parse-requires c κs = record-long (now (c .before .before .before .before .before .before .before .args .b)) (passed (now (c .before .before .before .before .before .before .before .args .b)) (sym (c .before .before .before .refusal-of .ensures) ∙ c .before .before .if1 .left) .is)
 
 fixed-up-requires : tie.Need-fixed-up-requires
 fixed-up-requires c κs = search needs
@@ -32,7 +32,7 @@ refusal-of-requires-3 : tie.Need-refusal-of-requires-3
 refusal-of-requires-3 c κs = search needs
 
 parse-requires-2 : tie.Need-parse-requires-2
-parse-requires-2 c κs = file-length (now (c .before .before .before .before .before .before .before .before .before .before .before .args .file)) (sym (c .before .before .before .before .before .refusal-of2 .ensures) ∙ c .before .before .before .before .if2 .left)
+parse-requires-2 c κs = file-long (now (c .before .before .before .before .before .before .before .before .before .before .before .args .file)) (sym (c .before .before .before .before .before .refusal-of2 .ensures) ∙ c .before .before .before .before .if2 .left)
 
 resolve-requires : tie.Need-resolve-requires
 resolve-requires c κs = search needs

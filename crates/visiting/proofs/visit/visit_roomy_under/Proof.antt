@@ -1,7 +1,7 @@
 use mathlib.Core.Path.{refl, sym, ap, _∙_}
 use denote.Ref.{now}
 use mathlib.Core.Bool.{false}
-use Rattle.record.proofs.Laws.{forty, passed}
+use Rattle.record.proofs.Laws.{record-long, passed}
 use Rattle.visiting.proofs.Calls.{bad-record, visited}
 use borrow.Author.Needs.{needs}
 use Rattle.visiting.proofs.visit.visit_roomy_under.Statement.{statement}
@@ -14,7 +14,7 @@ returns : tie.Need-returns
 returns c = bad-record (now (c .before .before .before .before .args .b)) (now (c .before .before .before .before .args .log)) 0 false (c .before .before .before .before .args .f) (c .before .refusal-of .ensures) (c .if1 .taken)
 
 parse-requires : tie.Need-parse-requires
-parse-requires c κs = forty (now (c .before .before .before .before .args .b)) (passed (now (c .before .before .before .before .args .b)) (sym (c .before .refusal-of .ensures) ∙ c .if1 .left) .is)
+parse-requires c κs = record-long (now (c .before .before .before .before .args .b)) (passed (now (c .before .before .before .before .args .b)) (sym (c .before .refusal-of .ensures) ∙ c .if1 .left) .is)
 
 fixed-up-requires : tie.Need-fixed-up-requires
 fixed-up-requires c κs = search needs

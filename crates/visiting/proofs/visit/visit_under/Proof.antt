@@ -2,6 +2,7 @@ use mathlib.Core.Path.{sym, _∙_}
 use denote.Ref.{now}
 use lib.ListN.{length}
 use mathlib.Core.Bool.{false}
+use Rattle.definition.specs.Limits.{mostBytes}
 use Rattle.laws.proofs.Room.{starts-inside}
 use Rattle.visiting.proofs.Rooms.{has-lent, lent-on}
 use borrow.Author.Needs.{needs}
@@ -15,10 +16,10 @@ visit-tight-under-requires : tie.Need-visit-tight-under-requires
 visit-tight-under-requires c κs = search needs
 
 sub-visit-roomy-under : tie.Need-sub-visit-roomy-under
-sub-visit-roomy-under c = starts-inside 177 (c .before .before .before .before .args .start) (length (now (c .before .before .before .before .args .log))) (sym (c .before .lacks-room .ensures) ∙ c .if1 .left)
+sub-visit-roomy-under c = starts-inside mostBytes (c .before .before .before .before .args .start) (length (now (c .before .before .before .before .args .log))) (sym (c .before .lacks-room .ensures) ∙ c .if1 .left)
 
 part-visit-roomy-under-start : tie.Need-part-visit-roomy-under-start
-part-visit-roomy-under-start c = starts-inside 177 (c .before .before .before .before .args .start) (length (now (c .before .before .before .before .args .log))) (sym (c .before .lacks-room .ensures) ∙ c .if1 .left)
+part-visit-roomy-under-start c = starts-inside mostBytes (c .before .before .before .before .args .start) (length (now (c .before .before .before .before .args .log))) (sym (c .before .lacks-room .ensures) ∙ c .if1 .left)
 
 part-visit-roomy-under-end : tie.Need-part-visit-roomy-under-end
 part-visit-roomy-under-end c = search needs
