@@ -6,12 +6,14 @@
  * where its length is 0. Otherwise it points to that many bytes, and a buffer, a session or a watch that is written overlaps no other
  * argument.
  *
- * Records are 40 bytes of kind 0x10, register files 141 bytes of kind 0x20; numbers are little-endian. docs/FORMAT.md has every
- * field, table and rule.
+ * Records are 40 bytes of kind 0x10 or 41 of kind 0x11, register files 141 bytes of kind 0x20 or 157 of kind 0x21; numbers are
+ * little-endian. docs/FORMAT.md has every field, table and rule.
  *
  *   record   0 kind 0x10; 1-2 opcode; 3 operand count; 4-7 specs; 8-15 four registers (bank, number); 16 memory size; 17 scale;
- *            18-25 displacement; 26-33 immediate; 34 prefix bits; 35 mask register; 36 behavior; 37 operand access; 38-39 list
- *   file     0 kind 0x20; 1-4 known bits (0-15 rax, rcx, rdx, rbx, rsp, rbp, rsi, rdi, r8 to r15; 16 rip); 5-140 seventeen values.
+ *            18-25 displacement; 26-33 immediate; 34 prefix bits; 35 mask register; 36 behavior; 37 operand access; 38-39 list;
+ *            of kind 0x11 also 40 segment (0 none, 1 fs, 2 gs)
+ *   file     0 kind 0x20; 1-4 known bits (0-15 rax, rcx, rdx, rbx, rsp, rbp, rsi, rdi, r8 to r15; 16 rip); 5-140 seventeen values;
+ *            of kind 0x21 also bits 17 and 18 and 141-156, the bases of fs and gs.
  *            rip is that of the next instruction. The file is that before the instruction.
  *   event    1 register read, 2 register write (bank, number); 3 memory read, 4 memory write (8 address bytes, size);
  *            5 memory read, 6 memory write at an unknown address (size)
@@ -19,10 +21,10 @@
  * Refusal numbers, tested in this order; a refused call changes no byte of a buffer, and but for what 4 and 7 carry every other part
  * of its answer is 0:
  *
- *   1  the record is not 40 bytes of kind 0x10; in a log: an unknown kind, or an event cut short
+ *   1  the record's kind is unknown, or its length is not the kind's; in a log: an unknown kind, or an event cut short
  *   2  a field of the record is outside its table; in a log: a bad register, or a size outside 1 to 64; of a watch: a length outside
  *      1 to 8, or a pair past the limit
- *   3  the file is not 141 bytes of kind 0x20, or a known bit above 16 is set
+ *   3  the file's kind is unknown, its length is not the kind's, or a known bit above the kind's last is set
  *   4  the instruction is complex: its accesses are not a plain list. The answer carries the opcode
  *   5  an operand that is accessed names no register or memory, or a string list names no string slot
  *   6  memory is accessed and the record's memory size is 0
@@ -45,8 +47,8 @@ extern "C" {
 #endif
 
 /* A log never needs more bytes or events, a listing never more bytes. */
-#define MACHHUREL_LOG_BYTES 177
-#define MACHHUREL_LOG_EVENTS 38
+#define MACHHUREL_LOG_BYTES 201
+#define MACHHUREL_LOG_EVENTS 46
 #define MACHHUREL_LISTING_BYTES 34
 
 /* Every answer: the refusal number, 0 for none (for machhurel_event also MACHHUREL_FINISHED). */

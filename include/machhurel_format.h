@@ -13,9 +13,18 @@
 
 /* Items of a trace, by their first byte, and how many bytes each has. */
 #define MACHHUREL_KIND_RECORD 0x10
+#define MACHHUREL_KIND_SEGMENT_RECORD 0x11
 #define MACHHUREL_KIND_FILE 0x20
+#define MACHHUREL_KIND_BASED_FILE 0x21
 #define MACHHUREL_RECORD_BYTES 40
+#define MACHHUREL_SEGMENT_RECORD_BYTES 41
 #define MACHHUREL_FILE_BYTES 141
+#define MACHHUREL_BASED_FILE_BYTES 157
+
+/* Segments of a record of kind 0x11. */
+#define MACHHUREL_SEGMENT_NONE 0
+#define MACHHUREL_SEGMENT_FS 1
+#define MACHHUREL_SEGMENT_GS 2
 
 /* Refusals. */
 #define MACHHUREL_REFUSED_FORM 1
@@ -62,8 +71,11 @@
 #define MACHHUREL_BANK_EIP 10
 #define MACHHUREL_BANK_RFLAGS 11
 #define MACHHUREL_BANK_OTHER 12
+/* In a log alone: number 0 is the base of fs, 1 that of gs. */
+#define MACHHUREL_BANK_BASE 13
 
-/* General registers: their numbers in the banks Q, D, W and rB, and in a register file. RIP is a number of a file alone. */
+/* General registers: their numbers in the banks Q, D, W and rB, and in a register file. RIP is a number of a file alone, and so are
+ * the bases of fs and gs, of a file of kind 0x21. */
 #define MACHHUREL_RAX 0
 #define MACHHUREL_RCX 1
 #define MACHHUREL_RDX 2
@@ -81,6 +93,8 @@
 #define MACHHUREL_R14 14
 #define MACHHUREL_R15 15
 #define MACHHUREL_RIP 16
+#define MACHHUREL_FS_BASE 17
+#define MACHHUREL_GS_BASE 18
 
 /* Specs: what an operand is. */
 #define MACHHUREL_SPEC_NOTHING 0

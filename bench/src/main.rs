@@ -16,6 +16,7 @@ mod theirs;
 use std::hint::black_box;
 use std::os::raw::c_long;
 
+use answers::expected::LOG_BYTES;
 use inputs::Input;
 
 extern "C" {
@@ -29,7 +30,7 @@ fn now() -> f64 {
     unsafe { clock() as f64 / 1e6 }
 }
 
-type Visit = fn(&[u8], &[u8], &mut [u8; 177]) -> usize;
+type Visit = fn(&[u8], &[u8], &mut [u8; LOG_BYTES]) -> usize;
 
 /// Who visits, by name: the given Rust comes first.
 const SIDES: &[(&str, Visit)] = &[
@@ -44,7 +45,7 @@ const INPUTS: [(&str, fn(u64, usize) -> Input); 3] =
 
 /// One pass over the input: the bytes of all logs, added up.
 fn pass(input: &Input, visit: Visit) -> usize {
-    let mut log = [0u8; 177];
+    let mut log = [0u8; LOG_BYTES];
     let mut total = 0;
     for (record, file) in input.pairs() {
         total += visit(black_box(record), black_box(file), &mut log);
@@ -63,7 +64,7 @@ fn assert_same_logs(input: &Input) {
     for (number, (record, file)) in input.pairs().enumerate() {
         let expected = theirs::corrected(record, file);
         for (side, visit) in &SIDES[1..] {
-            let mut log = [0u8; 177];
+            let mut log = [0u8; LOG_BYTES];
             let length = visit(record, file, &mut log);
             assert!(log[..length] == expected, "record {number}: {side} has another log");
         }

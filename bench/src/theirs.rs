@@ -2,12 +2,13 @@
 //! field for refusals 1 to 3, and does not cut addresses (T-02), which is to its advantage.
 
 use answers::asked::{self, LogVisitor, Sink, Visited};
+use answers::expected::LOG_BYTES;
 use answers::record::Record;
 use answers::register_file::RegisterFile;
 
 /// The buffer that the library is lent too.
 struct Buffer<'a> {
-    bytes: &'a mut [u8; 177],
+    bytes: &'a mut [u8; LOG_BYTES],
     at: usize,
 }
 
@@ -19,7 +20,7 @@ impl Sink for Buffer<'_> {
 }
 
 /// The log's length; 0 where the instruction is complex.
-pub fn visit(record: &[u8], file: &[u8], log: &mut [u8; 177]) -> usize {
+pub fn visit(record: &[u8], file: &[u8], log: &mut [u8; LOG_BYTES]) -> usize {
     let record = Record::from_bytes(record);
     let file = RegisterFile::from_bytes(file);
     let mut visitor = LogVisitor { file: &file, log: Buffer { bytes: log, at: 0 }, uncut: usize::MAX };

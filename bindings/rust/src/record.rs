@@ -5,18 +5,39 @@ use crate::file::RegisterFile;
 use crate::refusal::Refusal;
 use crate::register::Register;
 use crate::spec::Spec;
-use crate::{LOG_BYTES, RECORD_BYTES};
+use crate::{LOG_BYTES, RECORD_BYTES, SEGMENT_RECORD_BYTES};
 use core::ops::Deref;
 
-/// A record of kind 0x10 that [`RecordBuilder::build`] has let through.
+/// A segment whose base is added to the addresses of a record.
 #[derive(Clone, Copy, Debug, PartialEq, Eq, Hash)]
-pub struct Record([u8; RECORD_BYTES]);
+#[allow(missing_docs)]
+pub enum Segment {
+    Fs,
+    Gs,
+}
+
+const PLAIN: u8 = 0x10;
+const SEGMENTED: u8 = 0x11;
+
+/// A record that [`RecordBuilder::build`] has let through: of kind 0x11 where it names a segment, else of kind 0x10.
+#[derive(Clone, Copy, Debug, PartialEq, Eq, Hash)]
+pub struct Record([u8; SEGMENT_RECORD_BYTES]);
+
+/// The bytes of a record, by its kind.
+fn bytes_of(record: &[u8; SEGMENT_RECORD_BYTES]) -> &[u8] {
+    let length = if record[0] == SEGMENTED {
+        SEGMENT_RECORD_BYTES
+    } else {
+        RECORD_BYTES
+    };
+    &record[..length]
+}
 
 impl Record {
     /// A record that does nothing yet, of this opcode.
     pub fn builder(opcode: u16) -> RecordBuilder {
-        let mut bytes = [0; RECORD_BYTES];
-        bytes[0] = 0x10;
+        let mut bytes = [0; SEGMENT_RECORD_BYTES];
+        bytes[0] = PLAIN;
         bytes[1..3].copy_from_slice(&opcode.to_le_bytes());
         RecordBuilder { bytes }
     }
@@ -26,14 +47,14 @@ impl Deref for Record {
     type Target = [u8];
 
     fn deref(&self) -> &[u8] {
-        &self.0
+        bytes_of(&self.0)
     }
 }
 
 /// The bytes join as a trace: `[record, record].concat()`.
 impl core::borrow::Borrow<[u8]> for Record {
     fn borrow(&self) -> &[u8] {
-        &self.0
+        bytes_of(&self.0)
     }
 }
 
@@ -54,7 +75,7 @@ impl core::borrow::Borrow<[u8]> for Record {
 #[derive(Clone, Copy, Debug, PartialEq, Eq, Hash)]
 #[must_use]
 pub struct RecordBuilder {
-    bytes: [u8; RECORD_BYTES],
+    bytes: [u8; SEGMENT_RECORD_BYTES],
 }
 
 const COUNT: usize = 3;
@@ -69,6 +90,7 @@ const MASK: usize = 35;
 const BEHAVIOR: usize = 36;
 const OPERAND_ACCESS: usize = 37;
 const LIST: usize = 38;
+const SEGMENT: usize = RECORD_BYTES;
 const COMPLEX: u8 = 0x20;
 
 impl RecordBuilder {
@@ -172,6 +194,15 @@ impl RecordBuilder {
         self.set_bits(PREFIXES, 8, 8)
     }
 
+    /// The segment of a memory operand: its base is read first and added last.
+    pub fn segment(self, segment: Segment) -> Self {
+        let number = match segment {
+            Segment::Fs => 1,
+            Segment::Gs => 2,
+        };
+        self.set(0, SEGMENTED).set(SEGMENT, number)
+    }
+
     /// The mask register, 0 for none.
     pub fn mask(self, number: u8) -> Self {
         self.set(MASK, number)
@@ -199,14 +230,15 @@ impl RecordBuilder {
 
     /// The number of the implicit list, 0 to 28.
     pub fn list(mut self, number: u16) -> Self {
-        self.bytes[LIST..].copy_from_slice(&number.to_le_bytes());
+        self.bytes[LIST..SEGMENT].copy_from_slice(&number.to_le_bytes());
         self
     }
 
     /// The record, or why every visit of it would be refused. The library itself decides. That a record said to be complex is refused 4
     /// is no mistake.
     pub fn build(self) -> Result<Record, Refusal> {
-        let answer = visit(&self.bytes, &RegisterFile::new(), &mut [0; LOG_BYTES], 0);
+        let bytes = bytes_of(&self.bytes);
+        let answer = visit(bytes, &RegisterFile::new(), &mut [0; LOG_BYTES], 0);
         match answer {
             Ok(_) | Err(Refusal::Complex { .. }) => Ok(Record(self.bytes)),
             Err(refusal) => Err(refusal),

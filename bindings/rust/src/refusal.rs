@@ -5,12 +5,12 @@ use core::fmt;
 /// Why a call was refused. A refused call changes no byte of a buffer.
 #[derive(Clone, Copy, Debug, PartialEq, Eq, Hash)]
 pub enum Refusal {
-    /// 1: not 40 bytes of kind 0x10; in a log, an unknown kind or an event cut short.
+    /// 1: an unknown kind, or not the kind's length; in a log, an unknown kind or an event cut short.
     Form,
     /// 2: a field outside its table; in a log, a bad register or a size outside 1 to 64; of a watch, a length outside 1 to 8 or a pair
     /// past the limit.
     Field,
-    /// 3: the register file is not 141 bytes of kind 0x20, or knows a register that there is not.
+    /// 3: the register file's kind is unknown, its length is not the kind's, or it knows a register that the kind has not.
     File,
     /// 4: the instruction's accesses are not a plain list.
     Complex {

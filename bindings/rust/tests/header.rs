@@ -61,6 +61,8 @@ fn registers() {
         assert_eq!(all.get(&name), Some(&u64::from(number)), "{name}");
     }
     assert_eq!(all.get("RIP"), Some(&(Known::Rip as u64)));
+    assert_eq!(all.get("FS_BASE"), Some(&(Known::FsBase as u64)));
+    assert_eq!(all.get("GS_BASE"), Some(&(Known::GsBase as u64)));
 }
 
 #[test]
@@ -70,7 +72,9 @@ fn kinds_lengths_and_bounds() {
     let kinds: Vec<u64> = group("KIND_").into_iter().map(|(kind, _)| kind).collect();
     assert_eq!(kinds, KINDS.map(|(kind, _, _)| u64::from(kind)));
     assert_eq!(of("RECORD_BYTES"), Some(RECORD_BYTES));
+    assert_eq!(of("SEGMENT_RECORD_BYTES"), Some(SEGMENT_RECORD_BYTES));
     assert_eq!(of("FILE_BYTES"), Some(FILE_BYTES));
+    assert_eq!(of("BASED_FILE_BYTES"), Some(BASED_FILE_BYTES));
     assert_eq!(of("LOG_BYTES"), Some(LOG_BYTES));
     assert_eq!(of("LOG_EVENTS"), Some(LOG_EVENTS));
     assert_eq!(of("LISTING_BYTES"), Some(LISTING_BYTES));

@@ -63,7 +63,7 @@ pub enum Visited {
 
 pub fn visit(record: &Record, file: &RegisterFile) -> Visited {
     let behavior = record.behavior();
-    let mut visitor = LogVisitor { file, log: Vec::with_capacity(177), uncut: record.uncut_accesses() };
+    let mut visitor = LogVisitor { file, log: Vec::with_capacity(crate::expected::LOG_BYTES), uncut: record.uncut_accesses() };
     let outcome = quietly(|| behavior.visit_accesses(&mut visitor));
     match outcome {
         Ok(Ok(())) => Visited::Log(visitor.log),

@@ -13,3 +13,4 @@ pub mod input;
 pub mod record;
 pub mod refusals;
 pub mod register_file;
+pub mod segment;

@@ -1,10 +1,10 @@
-//! A record's 40 bytes as the given Rust's instruction, with its base digest.
+//! A record's bytes as the given Rust's instruction, with its base digest. The given Rust knows no segment.
 
 use given::long_mode::behavior::{set_base, InstBehavior};
 use given::long_mode::{Instruction, Opcode, OperandSpec, Prefixes, RegSpec, RegisterBank};
 
-pub const LENGTH: usize = 40;
-pub const KIND: u8 = 0x10;
+/// The kinds of records, and the length of each.
+pub const KINDS: [(u8, usize); 2] = [(0x10, 40), (0x11, 41)];
 
 const NONTRIVIAL: u8 = 0x10;
 const ADDRESS_SIZE: u8 = 0x08;

@@ -1,7 +1,7 @@
 //! Document 01's bench records, P1 to P11, through the oracle.
 
 use answers::cases::draft::*;
-use answers::cases::{bases, files};
+use answers::cases::{bases, files, kinds};
 use answers::expected::{self, Refusal};
 use answers::input::Input;
 
@@ -83,8 +83,26 @@ fn sizes() {
 #[test]
 fn the_longest() {
     let longest = bases::longest();
-    assert_eq!(log(longest.record, longest.file).len(), expected::LOG_BYTES);
+    // Each of eight parts gets a read of the base, of 3 bytes.
+    assert_eq!(log(longest.record, longest.file).len(), expected::LOG_BYTES - 8 * 3);
+    let (record, file) = (kinds::segmented(&longest.record.0, 1).unwrap(), kinds::based(&longest.file, 3).unwrap());
+    assert_eq!(expected::log(&record, &file).unwrap().len(), expected::LOG_BYTES);
     assert_eq!(expected::listing(&longest.record.0).unwrap().len(), expected::LISTING_BYTES);
+}
+
+/// T-10: the base is read first and added last; LEA's read part and specs 20 and 22 ask for none.
+#[test]
+fn segments() {
+    let file = kinds::based(&files::holding(&[(3, 0x1000), (7, 0x3000)]), 1).unwrap();
+    let fs: [u8; 8] = file[141..149].try_into().unwrap();
+    let at = u64::from_le_bytes(fs).wrapping_add(0x1000).to_le_bytes();
+    let of = |record: Draft, segment| expected::log(&kinds::segmented(&record.0, segment).unwrap(), &file).unwrap();
+    let load = Draft::of(&[DEREF]).reg(1, Q, 3);
+    assert_eq!(of(load, 1), [&[1, 13, 0, 1, 0, 3, 3][..], &at, &[8]].concat());
+    assert_eq!(of(load, 2), [1, 13, 1, 1, 0, 3, 5, 8]);
+    assert_eq!(of(load, 0), [1, 0, 3, 3, 0, 0x10, 0, 0, 0, 0, 0, 0, 8]);
+    assert_eq!(of(load.opcode(LEA), 1), [1, 0, 3]);
+    assert_eq!(of(Draft::of(&[DEREF_RDI]), 1), [1, 0, 7, 3, 0, 0x30, 0, 0, 0, 0, 0, 0, 8]);
 }
 
 /// The text turns an opcode into a `ComplexOp` by its number: every number must come through.
