@@ -55,6 +55,23 @@ static void bytes_as_defined(void)
     check("fields", record[26] == 1 && record[33] == 8 && record[34] == 10 && record[35] == 7 && number_of(record, file) == 0);
 }
 
+/* push rax without a digest: the opcode gives the accesses and the list, whatever was set */
+static void digest_by_opcode(void)
+{
+    uint8_t record[MACHHUREL_RECORD_BYTES];
+    uint64_t answer;
+    machhurel_record_begin(record, MACHHUREL_OPCODE_PUSH);
+    machhurel_record_operand(record, MACHHUREL_SPEC_REG_RRR, MACHHUREL_ACCESS_BOTH);
+    machhurel_record_everyday(record);
+    answer = machhurel_digest(record, MACHHUREL_EVERYDAY_RECORD_BYTES);
+    check("a push", MACHHUREL_NUMBER(answer) == 0 && MACHHUREL_LIST(answer) == MACHHUREL_LIST_PUSH &&
+                        MACHHUREL_OPERAND_ACCESS(answer) == MACHHUREL_ACCESS_READ);
+    machhurel_record_begin(record, MACHHUREL_OPCODE_POP + 1);
+    machhurel_record_everyday(record);
+    answer = machhurel_digest(record, MACHHUREL_EVERYDAY_RECORD_BYTES);
+    check("an opcode without a digest", answer == MACHHUREL_REFUSED_OPCODE);
+}
+
 static void mistakes_are_refused(void)
 {
     uint8_t record[MACHHUREL_RECORD_BYTES], file[MACHHUREL_FILE_BYTES];
@@ -81,6 +98,7 @@ static void mistakes_are_refused(void)
 int main(void)
 {
     bytes_as_defined();
+    digest_by_opcode();
     mistakes_are_refused();
     return failed;
 }
