@@ -6,12 +6,12 @@
  * where its length is 0. Otherwise it points to that many bytes, and a buffer, a session or a watch that is written overlaps no other
  * argument.
  *
- * Records are 40 bytes of kind 0x10 or 41 of kind 0x11, register files 141 bytes of kind 0x20 or 157 of kind 0x21; numbers are
- * little-endian. docs/FORMAT.md has every field, table and rule.
+ * Records are 40 bytes of kind 0x10, 41 of kind 0x11 or 36 of kind 0x12, register files 141 bytes of kind 0x20 or 157 of kind 0x21;
+ * numbers are little-endian. docs/FORMAT.md has every field, table and rule.
  *
  *   record   0 kind 0x10; 1-2 opcode; 3 operand count; 4-7 specs; 8-15 four registers (bank, number); 16 memory size; 17 scale;
  *            18-25 displacement; 26-33 immediate; 34 prefix bits; 35 mask register; 36 behavior; 37 operand access; 38-39 list;
- *            of kind 0x11 also 40 segment (0 none, 1 fs, 2 gs)
+ *            of kind 0x11 also 40 segment (0 none, 1 fs, 2 gs); of kind 0x12 only 0-35, and the digest comes from the opcode
  *   file     0 kind 0x20; 1-4 known bits (0-15 rax, rcx, rdx, rbx, rsp, rbp, rsi, rdi, r8 to r15; 16 rip); 5-140 seventeen values;
  *            of kind 0x21 also bits 17 and 18 and 141-156, the bases of fs and gs.
  *            rip is that of the next instruction. The file is that before the instruction.
@@ -24,6 +24,7 @@
  *   1  the record's kind is unknown, or its length is not the kind's; in a log: an unknown kind, or an event cut short
  *   2  a field of the record is outside its table; in a log: a bad register, or a size outside 1 to 64; of a watch: a length outside
  *      1 to 8, or a pair past the limit; a block of more than 1,000 records
+ *   9  the record is of kind 0x12, and its opcode has no base digest
  *   3  the file's kind is unknown, its length is not the kind's, or a known bit above the kind's last is set
  *   4  the instruction is complex: its accesses are not a plain list. The answer carries the opcode
  *   5  an operand that is accessed names no register or memory, or a string list names no string slot
@@ -128,26 +129,26 @@ typedef struct machhurel_watch {
 #define MACHHUREL_TOUCHED(answer) MACHHUREL_CAST(uint8_t, (((answer) >> 16) & 0xFF))
 
 /*
- * Writes the log of the record under the register file into log[start..], and answers its length in MACHHUREL_COUNT. Refuses 1 to 7. With
- * MACHHUREL_LOG_BYTES of room behind the start it never refuses 7. After 7 MACHHUREL_COUNT has the length of the log: the same call with
- * so many bytes behind its start succeeds.
+ * Writes the log of the record under the register file into log[start..], and answers its length in MACHHUREL_COUNT. Refuses 1 to 7
+ * and 9. With MACHHUREL_LOG_BYTES of room behind the start it never refuses 7. After 7 MACHHUREL_COUNT has the length of the log: the
+ * same call with so many bytes behind its start succeeds.
  */
 uint64_t machhurel_visit(const uint8_t *record, size_t record_len, const uint8_t *file, size_t file_len, uint8_t *log, size_t log_len,
                          size_t start);
 
 /*
  * Writes the listing of the record's operands into out[start..]: flags, implicit operands, explicit operands, without a register file.
- * Answers its length in MACHHUREL_COUNT, after 7 too. Refuses 1, 2, 4, 7.
+ * Answers its length in MACHHUREL_COUNT, after 7 too. Refuses 1, 2, 9, 4, 7.
  */
 uint64_t machhurel_listing(const uint8_t *record, size_t record_len, uint8_t *out, size_t out_len, size_t start);
 
-/* The record's digest after fix-ups. Refuses 1, 2. */
+/* The record's digest after fix-ups. Refuses 1, 2, 9. */
 uint64_t machhurel_digest(const uint8_t *record, size_t record_len);
 
-/* The privilege level that the instruction needs. Refuses 1, 2. */
+/* The privilege level that the instruction needs. Refuses 1, 2, 9. */
 uint64_t machhurel_privilege(const uint8_t *record, size_t record_len);
 
-/* The exceptions that the instruction may raise. Refuses 1, 2. */
+/* The exceptions that the instruction may raise. Refuses 1, 2, 9. */
 uint64_t machhurel_exceptions(const uint8_t *record, size_t record_len);
 
 /*
@@ -185,7 +186,7 @@ uint64_t machhurel_block(const uint8_t *records, size_t records_len, size_t each
 /*
  * Visits the record under the register file as machhurel_visit does, from session->used on, and counts the log that it wrote. Answers as
  * machhurel_visit: the log's length in MACHHUREL_COUNT, after 7 the bytes that this append needs. Refused, it changes no byte and no
- * count. The buffer is lent to each call; one that ends before session->used is refused 7, where none of 1 to 6 comes first.
+ * count. The buffer is lent to each call; one that ends before session->used is refused 7, where no other comes first.
  */
 uint64_t machhurel_append(machhurel_session *session, const uint8_t *record, size_t record_len, const uint8_t *file, size_t file_len,
                           uint8_t *log, size_t log_len);

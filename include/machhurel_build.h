@@ -100,6 +100,15 @@ static inline void machhurel_record_segment(uint8_t *record, unsigned segment)
     record[MACHHUREL_RECORD_BYTES] = MACHHUREL_CAST(uint8_t, segment < 255 ? segment : 255);
 }
 
+/*
+ * The record is one of kind 0x12 from now on, its first MACHHUREL_EVERYDAY_RECORD_BYTES: it has no digest, so that accesses, flags and
+ * list that were set count for nothing. The opcode decides them, and one that has none is refused 9.
+ */
+static inline void machhurel_record_everyday(uint8_t *record)
+{
+    record[0] = MACHHUREL_KIND_EVERYDAY_RECORD;
+}
+
 /* A register file that knows nothing, in MACHHUREL_FILE_BYTES. */
 static inline void machhurel_file_begin(uint8_t *file)
 {

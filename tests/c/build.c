@@ -78,6 +78,23 @@ static void a_segment(void)
     check("a register behind the bases", MACHHUREL_NUMBER(answer) == MACHHUREL_REFUSED_FILE);
 }
 
+/* push rax without a digest: the opcode gives the accesses and the list, whatever was set */
+static void digest_by_opcode(void)
+{
+    uint8_t record[MACHHUREL_RECORD_BYTES];
+    uint64_t answer;
+    machhurel_record_begin(record, MACHHUREL_OPCODE_PUSH);
+    machhurel_record_operand(record, MACHHUREL_SPEC_REG_RRR, MACHHUREL_ACCESS_BOTH);
+    machhurel_record_everyday(record);
+    answer = machhurel_digest(record, MACHHUREL_EVERYDAY_RECORD_BYTES);
+    check("a push", MACHHUREL_NUMBER(answer) == 0 && MACHHUREL_LIST(answer) == MACHHUREL_LIST_PUSH &&
+                        MACHHUREL_OPERAND_ACCESS(answer) == MACHHUREL_ACCESS_READ);
+    machhurel_record_begin(record, MACHHUREL_OPCODE_POP + 1);
+    machhurel_record_everyday(record);
+    answer = machhurel_digest(record, MACHHUREL_EVERYDAY_RECORD_BYTES);
+    check("an opcode without a digest", answer == MACHHUREL_REFUSED_OPCODE);
+}
+
 static void mistakes_are_refused(void)
 {
     uint8_t record[MACHHUREL_RECORD_BYTES], file[MACHHUREL_FILE_BYTES];
@@ -105,6 +122,7 @@ int main(void)
 {
     bytes_as_defined();
     a_segment();
+    digest_by_opcode();
     mistakes_are_refused();
     return failed;
 }

@@ -74,6 +74,8 @@ pub use watch::{verdict, Named, Names, Step, Tally, Verdict, Watch, WATCH_PAIRS}
 pub const RECORD_BYTES: usize = 40;
 /// The bytes of a record of kind 0x11, which names a segment.
 pub const SEGMENT_RECORD_BYTES: usize = RECORD_BYTES + 1;
+/// The bytes of a record of kind 0x12, which brings no digest.
+pub const EVERYDAY_RECORD_BYTES: usize = 36;
 /// The bytes of a register file of kind 0x20.
 pub const FILE_BYTES: usize = 141;
 /// The bytes of a register file of kind 0x21, which has the bases of fs and gs.

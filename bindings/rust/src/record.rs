@@ -5,7 +5,7 @@ use crate::file::RegisterFile;
 use crate::refusal::Refusal;
 use crate::register::Register;
 use crate::spec::Spec;
-use crate::{LOG_BYTES, RECORD_BYTES, SEGMENT_RECORD_BYTES};
+use crate::{EVERYDAY_RECORD_BYTES, LOG_BYTES, RECORD_BYTES, SEGMENT_RECORD_BYTES};
 use core::ops::Deref;
 
 /// A segment whose base is added to the addresses of a record.
@@ -18,17 +18,19 @@ pub enum Segment {
 
 const PLAIN: u8 = 0x10;
 const SEGMENTED: u8 = 0x11;
+const EVERYDAY: u8 = 0x12;
 
-/// A record that [`RecordBuilder::build`] has let through: of kind 0x11 where it names a segment, else of kind 0x10.
+/// A record that [`RecordBuilder::build`] has let through: of kind 0x11 where it names a segment, of kind 0x12 where it leaves the digest
+/// to its opcode, else of kind 0x10.
 #[derive(Clone, Copy, Debug, PartialEq, Eq, Hash)]
 pub struct Record([u8; SEGMENT_RECORD_BYTES]);
 
 /// The bytes of a record, by its kind.
 fn bytes_of(record: &[u8; SEGMENT_RECORD_BYTES]) -> &[u8] {
-    let length = if record[0] == SEGMENTED {
-        SEGMENT_RECORD_BYTES
-    } else {
-        RECORD_BYTES
+    let length = match record[0] {
+        SEGMENTED => SEGMENT_RECORD_BYTES,
+        EVERYDAY => EVERYDAY_RECORD_BYTES,
+        _ => RECORD_BYTES,
     };
     &record[..length]
 }
@@ -201,6 +203,28 @@ impl RecordBuilder {
             Segment::Gs => 2,
         };
         self.set(0, SEGMENTED).set(SEGMENT, number)
+    }
+
+    /// The digest is that of the opcode: accesses, flags, privilege and list that are set count for nothing. An opcode that has none is
+    /// refused 9. This kind has no segment: of the two the one that is set last decides.
+    ///
+    /// ```
+    /// use machhurel::{Access, Record, Refusal, Register, Spec};
+    /// // add rax, rbx
+    /// let add = |opcode| {
+    ///     Record::builder(opcode)
+    ///         .operand(Spec::RegRRR, Access::None)
+    ///         .operand(Spec::RegMMM, Access::None)
+    ///         .rrr(Register::quad(0))
+    ///         .mmm(Register::quad(3))
+    ///         .everyday()
+    /// };
+    /// assert_eq!(machhurel::digest(&add(103).build()?)?.operand_access, 0x07);
+    /// assert_eq!(add(119).build(), Err(Refusal::Opcode));
+    /// # Ok::<(), Refusal>(())
+    /// ```
+    pub fn everyday(self) -> Self {
+        self.set(0, EVERYDAY)
     }
 
     /// The mask register, 0 for none.

@@ -73,6 +73,7 @@ fn kinds_lengths_and_bounds() {
     assert_eq!(kinds, KINDS.map(|(kind, _, _)| u64::from(kind)));
     assert_eq!(of("RECORD_BYTES"), Some(RECORD_BYTES));
     assert_eq!(of("SEGMENT_RECORD_BYTES"), Some(SEGMENT_RECORD_BYTES));
+    assert_eq!(of("EVERYDAY_RECORD_BYTES"), Some(EVERYDAY_RECORD_BYTES));
     assert_eq!(of("FILE_BYTES"), Some(FILE_BYTES));
     assert_eq!(of("BASED_FILE_BYTES"), Some(BASED_FILE_BYTES));
     assert_eq!(of("LOG_BYTES"), Some(LOG_BYTES));
@@ -97,6 +98,7 @@ fn accesses_refusals_and_lists() {
         Refusal::Operand,
         Refusal::Size,
         Refusal::Room { needed: 0 },
+        Refusal::Opcode,
     ];
     for ((number, name), refusal) in group("REFUSED_").into_iter().zip(refusals) {
         assert_eq!(u64::from(refusal.number()), number);

@@ -73,9 +73,11 @@ fn names_of_opcodes() {
     let named: Vec<u16> = (0..=u16::MAX)
         .filter(|k| opcode_name(*k).is_some())
         .collect();
-    assert_eq!(named, (1..=28).collect::<Vec<_>>());
+    assert_eq!(named, (1..=28).chain(100..=118).collect::<Vec<_>>());
     assert_eq!(opcode_name(1), Some("MUL"));
     assert_eq!(opcode_name(28), Some("LEA"));
+    assert_eq!(opcode_name(100), Some("MOV"));
+    assert_eq!(opcode_name(117), Some("PUSH"));
 }
 
 #[test]
@@ -123,6 +125,10 @@ fn words_of_refusals() {
         (
             Refusal::Room { needed: 32 },
             "refused 7 (32 bytes needed): too little room behind the start",
+        ),
+        (
+            Refusal::Opcode,
+            "refused 9: kind 0x12 has no digest for this opcode",
         ),
     ] {
         assert_eq!(refusal.to_string(), words);

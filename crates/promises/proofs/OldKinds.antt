@@ -1,12 +1,12 @@
 -- The kinds that were there before T-10 answer as they did: a record that names no segment, and a file that knows no base, are the same
 -- record and the same file without those bytes. Assumes nothing.
-use Prim.Native.Nat.{ℕ, zero, suc, _+_, _*_, _/_, _%_, _^_, _<_, _≤_, zero-le}
-use native.Mathlib.Nat.{le-of-suc-le-suc, not-suc-le-zero}
+use Prim.Native.Nat.{ℕ, zero, suc, _+_, _-_, _*_, _/_, _%_, _^_, _<_, _≤_, zero-le}
+use native.Mathlib.Nat.{not-suc-le-zero}
 use native.Mathlib.Omega.{arith}
 use mathlib.Core.Path.{_≡_, refl, sym, ap, _∙_}
 use mathlib.Core.Bool.{Bool, true, false, cond, _&&_}
 use mathlib.Core.List.{List, [], _∷_, _++_}
-use lib.ListN.{length, length-append, getD}
+use lib.ListN.{length, length-append, getD, List·getD-append}
 use lib.Dec.{eqb, ltb, lit≤}
 use borrow.Author.Tests.{eqb-true, ltb-true, ltb-false, eq-eqb, lt-ltb, le-ltb}
 use Rattle.laws.specs.Words.{numberAt, bit}
@@ -18,50 +18,11 @@ use Rattle.registers.specs.declared.RegSpec.{RegSpec}
 use Rattle.registers.specs.declared.RegisterFile.{RegisterFile}
 use Rattle.registers.specs.declared.Value.{Value}
 use Rattle.registers.specs.declared.Value.the-variants.{Known, Unknown}
-use Rattle.record.specs.Records.{recordKind, segmentKind, recordBytes, recordLength, isRecord, recordOf, recordRefusal}
+use Rattle.record.specs.Records.{recordKind, segmentKind, recordBytes, recordLength, isRecord, recordDigest, recordOf, lacksDigest, recordRefusal}
 use Rattle.definition.specs.Behaviors.{digestCall, privilegeCall, exceptionsCall}
 use Rattle.definition.specs.Visits.{logOf, refusalOf, visitBy}
 use Rattle.definition.specs.Listings.{listingRefusal, listingCall}
-
--- bytes that agree from place 1 up to an end make the same numbers there
-module _ (b c : List ℕ) (end : ℕ) (agree : (i : ℕ) → 1 ≤ i → i < end → getD b i 0 ≡ getD c i 0) where
-  same-number : (i n : ℕ) → 1 ≤ i → i + n ≤ end → numberAt b i n ≡ numberAt c i n
-  unfolding numberAt
-  same-number i zero h k = refl
-  same-number i (suc n) h k = rw (agree i h (omega arith), same-number (i + 1) n (omega arith) (omega arith))
-
-  same-record : 41 ≤ end → recordOf b ≡ recordOf c
-  unfolding recordOf
-  same-record e =
-      rw (
-        byte 3 (lit≤ tt) (lit≤ tt),
-        byte 4 (lit≤ tt) (lit≤ tt),
-        byte 5 (lit≤ tt) (lit≤ tt),
-        byte 6 (lit≤ tt) (lit≤ tt),
-        byte 7 (lit≤ tt) (lit≤ tt),
-        byte 8 (lit≤ tt) (lit≤ tt),
-        byte 9 (lit≤ tt) (lit≤ tt),
-        byte 10 (lit≤ tt) (lit≤ tt),
-        byte 11 (lit≤ tt) (lit≤ tt),
-        byte 12 (lit≤ tt) (lit≤ tt),
-        byte 13 (lit≤ tt) (lit≤ tt),
-        byte 14 (lit≤ tt) (lit≤ tt),
-        byte 15 (lit≤ tt) (lit≤ tt),
-        byte 16 (lit≤ tt) (lit≤ tt),
-        byte 17 (lit≤ tt) (lit≤ tt),
-        byte 34 (lit≤ tt) (lit≤ tt),
-        byte 35 (lit≤ tt) (lit≤ tt),
-        byte 36 (lit≤ tt) (lit≤ tt),
-        byte 37 (lit≤ tt) (lit≤ tt),
-        byte 40 (lit≤ tt) (lit≤ tt),
-        same-number 1 2 (lit≤ tt) (omega (arith, e)),
-        same-number 18 8 (lit≤ tt) (omega (arith, e)),
-        same-number 26 8 (lit≤ tt) (omega (arith, e)),
-        same-number 38 2 (lit≤ tt) (omega (arith, e)),
-      )
-    where
-      byte : (i : ℕ) → 1 ≤ i → i < 41 → getD b i 0 ≡ getD c i 0
-      byte i h k = agree i h (omega (arith, e))
+use Rattle.promises.proofs.Fields.{same-number, same-brought, same-record}
 
 -- a last byte of 0 says nothing more
 zero-behind : (t : List ℕ) (i : ℕ) → getD (t ++ (0 ∷ [])) i 0 ≡ getD t i 0
@@ -69,11 +30,6 @@ zero-behind [] zero = refl
 zero-behind [] (suc i) = refl
 zero-behind (x ∷ t) zero = refl
 zero-behind (x ∷ t) (suc i) = zero-behind t i
-
-in-front : (t u : List ℕ) (i : ℕ) → i < length t → getD (t ++ u) i 0 ≡ getD t i 0
-in-front [] u i h = absurd (not-suc-le-zero h)
-in-front (x ∷ t) u zero h = refl
-in-front (x ∷ t) u (suc i) h = in-front t u i (le-of-suc-le-suc h)
 
 -- Records
 module _ (t : List ℕ) (long : length t + 1 ≡ recordBytes) where
@@ -88,7 +44,16 @@ module _ (t : List ℕ) (long : length t + 1 ≡ recordBytes) where
   alike (suc i) h k = zero-behind t i
 
   read-alike : recordOf new ≡ recordOf old
-  read-alike = same-record new old 41 alike (lit≤ tt)
+  unfolding recordDigest
+  read-alike = same-record new old 41 alike (lit≤ tt) (same-brought new old 41 alike (lit≤ tt)) (zero-behind t (recordBytes - 1))
+
+  old-has : lacksDigest old ≡ false
+  unfolding lacksDigest recordDigest
+  old-has = refl
+
+  new-has : lacksDigest new ≡ false
+  unfolding lacksDigest recordDigest
+  new-has = refl
 
   old-is : isRecord old ≡ true
   unfolding isRecord recordLength
@@ -100,15 +65,15 @@ module _ (t : List ℕ) (long : length t + 1 ≡ recordBytes) where
 
   pub old-visit : (bad : Bool) (f : RegisterFile) (p : List ℕ) (s : ℕ) → visitBy bad new f p s ≡ visitBy bad old f p s
   unfolding visitBy refusalOf logOf
-  old-visit bad f p s = rw (new-is, old-is, read-alike)
+  old-visit bad f p s = rw (new-is, old-is, new-has, old-has, read-alike)
 
   pub old-listing : (p : List ℕ) (s : ℕ) → listingCall new p s ≡ listingCall old p s
   unfolding listingCall listingRefusal
-  old-listing p s = rw (new-is, old-is, read-alike)
+  old-listing p s = rw (new-is, old-is, new-has, old-has, read-alike)
 
   pub old-calls : (digestCall new ≡ digestCall old) × (privilegeCall new ≡ privilegeCall old) × (exceptionsCall new ≡ exceptionsCall old)
   unfolding digestCall privilegeCall exceptionsCall recordRefusal
-  old-calls = (rw (new-is, old-is, read-alike), rw (new-is, old-is, read-alike), rw (new-is, old-is, read-alike))
+  old-calls = (rw (new-is, old-is, new-has, old-has, read-alike), rw (new-is, old-is, new-has, old-has, read-alike), rw (new-is, old-is, new-has, old-has, read-alike))
 
 -- Files
 module _ (t u : List ℕ) (good : isFile (fileKind ∷ t) ≡ true) (more : length u + fileBytes ≡ basedBytes) where
@@ -133,7 +98,7 @@ module _ (t u : List ℕ) (good : isFile (fileKind ∷ t) ≡ true) (more : leng
 
   alike-file : (i : ℕ) → 1 ≤ i → i < fileBytes → getD based i 0 ≡ getD plain i 0
   alike-file zero h k = absurd (not-suc-le-zero h)
-  alike-file (suc i) h k = in-front t u i (omega (arith, long))
+  alike-file (suc i) h k = List·getD-append t u 0 i (omega (arith, long))
 
   number : (i n : ℕ) → 1 ≤ i → i + n ≤ fileBytes → numberAt based i n ≡ numberAt plain i n
   number i n h k = same-number based plain fileBytes alike-file i n h k

@@ -25,6 +25,7 @@ use Rattle.promises.proofs.Outcomes.{number-is, refused-is}
 use Rattle.promises.proofs.Whole.{good-back, visit-written, visit-reads, visit-reads-inside, listing-written}
 use Rattle.promises.proofs.Unknown.{unknown-to, unknown-from, based-to, based-from}
 use Rattle.promises.proofs.OldKinds.{old-visit, old-listing, old-calls, based-is, values}
+use Rattle.promises.proofs.Everyday.{filled-visit, filled-listing, filled-calls, unlisted-is, is-unlisted, nine-visit, nine-listing, nine-calls}
 use Rattle.promises.proofs.Opened.{opened}
 use Rattle.promises.proofs.Tables as tables
 use Rattle.promises.proofs.Wrong as wrong
@@ -87,6 +88,22 @@ old-files b t u p s good more =
     rw (good, based-is t u good more)
     (by-agrees false b (fileOf (basedKind ∷ (t ++ u))) (fileOf (fileKind ∷ t)) p s (λ y m. values t u good more y))
 
+pub filled-in : promised.FilledIn
+filled-in t f p s e listed =
+    let others = filled-calls t e listed in
+    (filled-visit t e listed (not (isFile f)) (fileOf f) p s, filled-listing t e listed p s, others .0, others .1, others .2)
+
+pub nine-exactly : promised.NineExactly
+nine-exactly b f p s =
+    let others = nine-calls b in
+    let first = first-refusal b f p s in (
+      (λ e. unlisted-is b (nine-visit (not (isFile f)) b (fileOf f) p s .0 (sym (first .0) ∙ e)), λ u. first .0 ∙ nine-visit (not (isFile f)) b (fileOf f) p s .1 (is-unlisted b u)),
+      (λ e. unlisted-is b (nine-listing b p s .0 (sym (first .1) ∙ e)), λ u. first .1 ∙ nine-listing b p s .1 (is-unlisted b u)),
+      (λ e. unlisted-is b (sym (others .0) ∙ e), λ u. others .0 ∙ is-unlisted b u),
+      (λ e. unlisted-is b (sym (others .1) ∙ e), λ u. others .1 ∙ is-unlisted b u),
+      (λ e. unlisted-is b (sym (others .2) ∙ e), λ u. others .2 ∙ is-unlisted b u),
+    )
+
 pub every-call-determined : promised.EveryCallDetermined
 every-call-determined b f p g s =
     (one-outcome _, one-outcome _, one-outcome _, one-outcome _, one-outcome _, one-outcome _, one-outcome _, one-outcome _, one-outcome _)
@@ -125,6 +142,9 @@ beyond-holds =
 
 pub segments-hold : promised.SegmentsHold
 segments-hold = (tables.segments-hold, tables.refused-kinds-hold, tables.base-readings-hold, tables.base-files-hold)
+
+pub everyday-holds : promised.EverydayHolds
+everyday-holds = (tables.every-digest-holds, tables.everyday-logs-hold, tables.everyday-refusals-hold, tables.everyday-listings-hold, tables.everyday-exceptions-hold, tables.everyday-privileges-hold)
 
 pub answers-hold : promised.AnswersHold
 answers-hold =

@@ -7,4 +7,5 @@ pub mod Answers
 pub mod Sweeps
 pub mod Fullest
 pub mod Segments
+pub mod Everyday
 pub mod Promises

@@ -8,7 +8,7 @@ use mathlib.Core.Bool.{Bool, true, not}
 use lib.ListN.{length, take, drop, set}
 use Rattle.laws.specs.Lending.{splice}
 use Rattle.laws.specs.Outcomes.{OneOutcome}
-use Rattle.access.specs.Exceptions.{setOf, thenSet, mayOf}
+use Rattle.access.specs.Exceptions.{setOf, thenSet, mayOf, infoNumber}
 use Rattle.access.specs.Privileges.{levelNumber}
 use Rattle.access.specs.declared.ExceptionInfo.{ExceptionInfo}
 use Rattle.access.specs.declared.InfoAnswer.{InfoAnswer}
@@ -16,14 +16,15 @@ use Rattle.registers.specs.Files.{fileKind, basedKind, fileBytes, basedBytes, f
 use Rattle.registers.specs.declared.RegSpec.{RegSpec}
 use Rattle.registers.specs.declared.RegisterFile.{RegisterFile}
 use Rattle.registers.specs.declared.Value.the-variants.{Known, Unknown}
-use Rattle.digest.specs.Digests.{withPrivilege, withFlags, withNontrivial, withComplex, operandAnswer, listAnswer, then}
+use Rattle.digest.specs.Digests.{withPrivilege, withFlags, withNontrivial, withComplex, operandAnswer, listAnswer, then, digestNumber}
 use Rattle.digest.specs.declared.BehaviorDigest.{BehaviorDigest}
 use Rattle.digest.specs.declared.DigestAnswer.{DigestAnswer}
 use Rattle.implicit.specs.Lists.{entryAt}
-use Rattle.record.specs.Records.{recordKind, segmentKind, recordBytes, recordAnswer, addressSize}
+use Rattle.everyday.specs.Rows.{unlisted, isEveryday}
+use Rattle.record.specs.Records.{recordKind, segmentKind, everydayKind, everydayBytes, recordBytes, recordAnswer, addressSize}
 use Rattle.record.specs.declared.Record.{Record}
 use Rattle.definition.specs.Addresses.{registersOf, lowIf, uncut, addressOf, operandAddress, segmentRegisters, basedOf}
-use Rattle.definition.specs.Behaviors.{digestCall, privilegeCall, exceptionsCall}
+use Rattle.definition.specs.Behaviors.{digestCall, privilegeCall, exceptionsCall, privilegeNumber}
 use Rattle.definition.specs.Steps.{stepsOf}
 use Rattle.definition.specs.Logs.{eventsOf, eventBytes, bytesOf}
 use Rattle.definition.specs.Limits.{mostEvents, mostBytes, mostListed}
@@ -46,6 +47,7 @@ use Rattle.promises.specs.Answers.{listings, digestFor, digests, excepti
 use Rattle.promises.specs.Sweeps.{every-list, every-spec-read, every-spec-written, fixedBy, every-opcode, namedIn, every-bank, mulOf, every-width, valueIn, every-value, atSize0, every-memory-list}
 use Rattle.promises.specs.Fullest.{fullest, fullest-file}
 use Rattle.promises.specs.Segments.{segments, refused-kinds, base-readings, basesIn, base-files}
+use Rattle.promises.specs.Everyday.{opcodeIn, filledIn, Unlisted, digestAt, every-digest, everyday-logs, everyday-refusals, everyday-listings, everyday-exceptions, everyday-privileges}
 
 -- DEMAND 3, FIRST HALF. Under a file that knows more, with room for the longest log on both sides, a visit is refused as before, number
 -- and opcode, and leaves the buffer; or it logs the same events in the same order, but for unknown addresses that are filled in.
@@ -148,6 +150,27 @@ OldFiles =
     → isFile (fileKind ∷ t) ≡ true → length bases + fileBytes ≡ basedBytes
     → visitOf b (basedKind ∷ (t ++ bases)) p s ≡ visitOf b (fileKind ∷ t) p s
 
+-- NO DIGEST. A record without one whose opcode is in the table answers what kind 0x10 answers with the digest of the table filled in.
+abbrev pub FilledIn : Type 0
+FilledIn =
+    (t f p : List ℕ) (s : ℕ)
+    → length t + 1 ≡ everydayBytes → isEveryday (opcodeIn t) ≡ true
+    → (visitOf (everydayKind ∷ t) f p s ≡ visitOf (filledIn t) f p s)
+    × (listingCall (everydayKind ∷ t) p s ≡ listingCall (filledIn t) p s)
+    × (digestCall (everydayKind ∷ t) ≡ digestCall (filledIn t))
+    × (privilegeCall (everydayKind ∷ t) ≡ privilegeCall (filledIn t))
+    × (exceptionsCall (everydayKind ∷ t) ≡ exceptionsCall (filledIn t))
+
+-- 9 is refused exactly where such a record's opcode is not in the table, and 1 and 2 are not.
+abbrev pub NineExactly : Type 0
+NineExactly =
+    (b f p : List ℕ) (s : ℕ)
+    → ((numberOf (visitOf b f p s .0) ≡ unlisted) ↔ Unlisted b)
+    × ((numberOf (listingCall b p s .0) ≡ unlisted) ↔ Unlisted b)
+    × ((digestNumber (digestCall b) ≡ unlisted) ↔ Unlisted b)
+    × ((privilegeNumber (privilegeCall b) ≡ unlisted) ↔ Unlisted b)
+    × ((infoNumber (exceptionsCall b) ≡ unlisted) ↔ Unlisted b)
+
 -- ONE OUTCOME. Any two outcomes that a call's contract allows are equal: answer, count and every byte lent. The calls over bytes:
 abbrev pub EveryCallDetermined : Type 0
 EveryCallDetermined =
@@ -231,6 +254,16 @@ BeyondHolds =
 -- What T-10 says of segments, kinds and bank 13.
 abbrev pub SegmentsHold : Type 0
 SegmentsHold = Visited segments × Visited refused-kinds × Table readingFrom base-readings × Table basesIn base-files
+
+-- What T-11 says of records without a digest: the table, and the order of the tests.
+abbrev pub EverydayHolds : Type 0
+EverydayHolds =
+    Table digestAt every-digest
+    × Visited everyday-logs
+    × Visited everyday-refusals
+    × Listed everyday-listings
+    × Table exceptionsFor everyday-exceptions
+    × Table privilegeFor everyday-privileges
 
 -- What the other calls and the setters answer.
 abbrev pub AnswersHold : Type 0

@@ -80,6 +80,10 @@ list n = put 38 (little 2 n)
 abbrev pub segment : ℕ → Patch
 segment n b = put 40 (n ∷ []) (long 41 (put 0 (0x11 ∷ []) b))
 
+-- the same record in the kind that has no digest
+abbrev pub everyday : Patch
+everyday b = long 36 (put 0 (0x12 ∷ []) b)
+
 -- a register file that knows nothing but what is said
 abbrev pub fileKnowing : List Patch → List ℕ
 fileKnowing cs = patched (put 0 (fileKind ∷ []) ∷ cs) (replicate fileBytes 0)

@@ -8,6 +8,7 @@
 pub mod asked;
 pub mod cases;
 pub mod event;
+pub mod everyday;
 pub mod expected;
 pub mod input;
 pub mod record;

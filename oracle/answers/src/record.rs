@@ -1,10 +1,11 @@
 //! A record's bytes as the given Rust's instruction, with its base digest. The given Rust knows no segment.
 
+use crate::everyday;
 use given::long_mode::behavior::{set_base, InstBehavior};
 use given::long_mode::{Instruction, Opcode, OperandSpec, Prefixes, RegSpec, RegisterBank};
 
 /// The kinds of records, and the length of each.
-pub const KINDS: [(u8, usize); 2] = [(0x10, 40), (0x11, 41)];
+pub const KINDS: [(u8, usize); 3] = [(0x10, 40), (0x11, 41), (everyday::KIND, everyday::LENGTH)];
 
 const NONTRIVIAL: u8 = 0x10;
 const ADDRESS_SIZE: u8 = 0x08;
@@ -20,7 +21,7 @@ pub struct Record {
 }
 
 impl Record {
-    /// For bytes that `refusals::of_record` does not refuse.
+    /// For bytes that `refusals::of_record` does not refuse, with their digest filled in.
     pub fn from_bytes(bytes: &[u8]) -> Record {
         let number = |at: usize| u16::from_le_bytes([bytes[at], bytes[at + 1]]);
         let long = |at: usize| u64::from_le_bytes(bytes[at..at + 8].try_into().unwrap());
@@ -80,7 +81,9 @@ impl Record {
         set_base(self.behavior, self.operand_access, self.extra);
         let (behavior, operand_access, list) = self.instruction.behavior().digest();
         match (self.instruction.opcode as u32 as u16, self.instruction.operand_count) {
-            (LOOPNZ..=LOOP, _) if self.instruction.prefixes.bits & ADDRESS_SIZE != 0 => Some((behavior, operand_access, 23)),
+            (LOOPNZ..=LOOP, _) if self.instruction.prefixes.bits & ADDRESS_SIZE != 0 => {
+                Some((behavior, operand_access, 23))
+            }
             (LOOPNZ..=LOOP, _) => Some((behavior, operand_access, 21)),
             (IMUL, 3) => Some((behavior, operand_access & !3 | 2, list)),
             _ => None,

@@ -1,6 +1,6 @@
 //! Document 01's refusal table, but for 4 (the given Rust's answer) and 7 (the room).
 
-use crate::{record, register_file};
+use crate::{everyday, record, register_file};
 
 /// The bases of fs and gs, which an event alone may name.
 const BASES: u8 = 13;
@@ -21,7 +21,7 @@ pub fn is_logged(bank: u8, number: u8) -> bool {
     is_register(bank, number) || (bank == BASES && number < 2)
 }
 
-/// 1 or 2, for a record's bytes.
+/// 1, 2 or 9, for a record's bytes.
 pub fn of_record(bytes: &[u8]) -> Option<u8> {
     let kind = bytes.first().zip(Some(bytes.len()));
     if !record::KINDS.iter().any(|(byte, length)| kind == Some((byte, *length))) {
@@ -33,15 +33,20 @@ pub fn of_record(bytes: &[u8]) -> Option<u8> {
         || bytes[16] > LARGEST_SIZE
         || bytes[34] > 0x0F
         || bytes[35] > 7
-        || u16::from_le_bytes([bytes[38], bytes[39]]) > LAST_LIST
+        || bytes.get(38..40).is_some_and(|list| u16::from_le_bytes([list[0], list[1]]) > LAST_LIST)
         || bytes.get(40).is_some_and(|&segment| segment > 2);
-    bad.then_some(2)
+    match everyday::filled_in(bytes) {
+        _ if bad => Some(2),
+        None => Some(9),
+        Some(_) => None,
+    }
 }
 
 /// Whether a register file is refused 3.
 pub fn of_file(bytes: &[u8]) -> bool {
     let kind = bytes.first().zip(Some(bytes.len()));
-    let Some((_, _, values)) = register_file::KINDS.iter().find(|(byte, length, _)| kind == Some((byte, *length))) else {
+    let Some((_, _, values)) = register_file::KINDS.iter().find(|(byte, length, _)| kind == Some((byte, *length)))
+    else {
         return true;
     };
     u32::from_le_bytes(bytes[1..5].try_into().unwrap()) >> values != 0

@@ -105,6 +105,19 @@ fn segments() {
     assert_eq!(of(Draft::of(&[DEREF_RDI]), 1), [1, 0, 7, 3, 0, 0x30, 0, 0, 0, 0, 0, 0, 8]);
 }
 
+/// T-11: a record without a digest is one with the digest of the table; an opcode that is not in it is 9, after 2 and before 3.
+#[test]
+fn no_digest() {
+    let (none, bad) = (files::holding(&[]), [0; 141]);
+    let adc = Draft::of(&[REG_RRR, REG_MMM]).opcode(108).reg(0, Q, 1).reg(1, Q, 3);
+    let of = |record: Draft, file: &[u8]| expected::log(&kinds::bare(&record.0).unwrap(), file);
+    assert_eq!(of(adc, &none), Ok(vec![1, 11, 0, 2, 11, 0, 1, 0, 1, 2, 0, 1, 1, 0, 3]));
+    assert_eq!(of(adc, &bad), Err(Refusal::Number(3)));
+    assert_eq!(of(adc.opcode(119), &bad), Err(Refusal::Number(9)));
+    assert_eq!(of(adc.opcode(119).size(65), &bad), Err(Refusal::Number(2)));
+    assert_eq!(expected::digest(&kinds::bare(&adc.opcode(118).0).unwrap()), 0x1B_0002_0000);
+}
+
 /// The text turns an opcode into a `ComplexOp` by its number: every number must come through.
 #[test]
 fn every_complex_opcode() {

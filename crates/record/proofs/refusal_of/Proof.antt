@@ -1,4 +1,4 @@
-use Rattle.record.proofs.Laws.{refused-empty, refused-length, has-fields, by-fields}
+use Rattle.record.proofs.Laws.{refused-empty, refused-length, has-fields, refused-fields, by-fields}
 use mathlib.Core.Path.{sym, _∙_}
 use denote.Ref.{now}
 use borrow.Author.Needs.{needs}
@@ -21,10 +21,16 @@ is-outside-requires : tie.Need-is-outside-requires
 is-outside-requires c κs = has-fields (now (c .before .before .before .before .before .args .b)) (c .before .before .before .if1 .left) (c .before .length-of .ensures) (c .if2 .left)
 
 returns-3 : tie.Need-returns-3
-returns-3 c = by-fields (now (c .before .before .before .before .before .before .before .args .b)) (c .before .before .before .before .before .if1 .left) (c .before .before .before .length-of .ensures) (c .before .before .if2 .left) (sym (c .if3 .taken) ∙ c .before .is-outside .ensures)
+returns-3 c = refused-fields (now (c .before .before .before .before .before .before .before .args .b)) (c .before .before .before .before .before .if1 .left) (c .before .before .before .length-of .ensures) (c .before .before .if2 .left) (sym (c .if3 .taken) ∙ c .before .is-outside .ensures)
+
+lacks-digest-requires : tie.Need-lacks-digest-requires
+lacks-digest-requires c κs = has-fields (now (c .before .before .before .before .before .before .before .args .b)) (c .before .before .before .before .before .if1 .left) (c .before .before .before .length-of .ensures) (c .before .before .if2 .left) .0
 
 returns-4 : tie.Need-returns-4
-returns-4 c = by-fields (now (c .before .before .before .before .before .before .before .args .b)) (c .before .before .before .before .before .if1 .left) (c .before .before .before .length-of .ensures) (c .before .before .if2 .left) (sym (c .if3 .left) ∙ c .before .is-outside .ensures)
+returns-4 c = by-fields (now (c .before .before .before .before .before .before .before .before .before .args .b)) (c .before .before .before .before .before .before .before .if1 .left) (c .before .before .before .before .before .length-of .ensures) (c .before .before .before .before .if2 .left) (sym (c .before .before .if3 .left) ∙ c .before .before .before .is-outside .ensures) (sym (c .if4 .taken) ∙ c .before .lacks-digest .ensures)
+
+returns-5 : tie.Need-returns-5
+returns-5 c = by-fields (now (c .before .before .before .before .before .before .before .before .before .args .b)) (c .before .before .before .before .before .before .before .if1 .left) (c .before .before .before .before .before .length-of .ensures) (c .before .before .before .before .if2 .left) (sym (c .before .before .if3 .left) ∙ c .before .before .before .is-outside .ensures) (sym (c .if4 .left) ∙ c .before .lacks-digest .ensures)
 
 pub refusal-of-spec : {M : Type 1} → statement M
 refusal-of-spec =
@@ -36,4 +42,6 @@ refusal-of-spec =
     returns-2
     is-outside-requires
     returns-3
-    returns-4)
+    lacks-digest-requires
+    returns-4
+    returns-5)

@@ -115,6 +115,20 @@ impl List {
         }
     }
 
+    /// Every opcode of the table and those beside it, in a record without a digest; 9 comes before 3.
+    fn no_digest(&mut self) {
+        let p2 = bases::p2();
+        for opcode in [0, 1, 2, 28, 29].into_iter().chain(99..=119) {
+            let record = kinds::bare(&p2.record.opcode(opcode).0).expect("a record of kind 0x10");
+            for call in [Call::Digest, Call::Privilege, Call::Exceptions] {
+                self.add(&Input::of_record(call, &record));
+            }
+            self.add(&Input::visit(&record, &p2.file, 256, 3));
+            self.add(&Input::visit(&record, &[], 256, 3));
+            self.add(&Input::listing(&record, 40, 3));
+        }
+    }
+
     /// Every number that a call can answer is in the list.
     fn assert_complete(&self) {
         for call in CALLS {
@@ -159,6 +173,7 @@ fn main() {
     list.rooms(&bases::p2());
     list.rooms(&bases::longest());
     list.longest_in_a_segment();
+    list.no_digest();
     for family in &FAMILIES {
         let mut turn = 0;
         sample(&mut random, family.each, OF_EACH_FAMILY, |random, record, file| {

@@ -1,4 +1,6 @@
-//! The same records and files in the kinds of T-10: a record with a segment, a file with the bases of fs and gs.
+//! The same records and files in the later kinds: a record with a segment, one without a digest, a file with the bases of fs and gs.
+
+use crate::everyday;
 
 /// The record with a segment behind it, where it is one of kind 0x10.
 pub fn segmented(record: &[u8], segment: u8) -> Option<Vec<u8>> {
@@ -9,6 +11,28 @@ pub fn segmented(record: &[u8], segment: u8) -> Option<Vec<u8>> {
     bytes[0] = 0x11;
     bytes.push(segment);
     Some(bytes)
+}
+
+/// The record without its digest, where it is one of kind 0x10.
+pub fn bare(record: &[u8]) -> Option<Vec<u8>> {
+    if record.len() != 40 || record[0] != 0x10 {
+        return None;
+    }
+    let mut bytes = record[..everyday::LENGTH].to_vec();
+    bytes[0] = everyday::KIND;
+    Some(bytes)
+}
+
+/// The same under an opcode: by the turn one from 100 to 119, MUL, LEA, or the record's own.
+fn renamed(mut record: Vec<u8>, turn: usize) -> Vec<u8> {
+    let opcode = match turn % 23 {
+        place @ 0..=19 => 100 + place as u16,
+        20 => 1,
+        21 => 28,
+        _ => return record,
+    };
+    record[1..3].copy_from_slice(&opcode.to_le_bytes());
+    record
 }
 
 /// The file with two bases behind it, where it is one of kind 0x20; `known` has bit 0 for fs and bit 1 for gs.
@@ -34,8 +58,11 @@ pub fn each(record: &[u8], file: &[u8], turn: usize, take: &mut dyn FnMut(&[u8],
     take(&none, &file);
     let named = segmented(record, 1 + (turn % 2) as u8).expect("the record has a segment already");
     take(&named, &file);
+    let bare = bare(record).expect("the record has no segment");
+    take(&renamed(bare.clone(), turn), &file);
     if turn % 16 == 0 {
         take(record, &file);
+        take(&bare[..everyday::LENGTH - 1], &file);
         take(&segmented(record, 3).expect("the record has a segment already"), &file);
     }
 }
