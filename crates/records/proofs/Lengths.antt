@@ -3,11 +3,12 @@ use Prim.Native.Nat.{ℕ, _<_}
 use native.Mathlib.Omega.{arith}
 use mathlib.Core.Path.{_≡_, refl}
 use mathlib.Core.List.{List}
-use mathlib.Core.Bool.{Bool, true, false, cond, and-left, and-right}
+use mathlib.Core.Bool.{Bool, true, false, cond}
 use lib.ListN.{length, getD}
 use lib.Dec.{ltb, eqb}
 use borrow.Author.Tests.{eqb-true, ltb-true}
 use Rattle.laws.specs.Tests.{any, isIn}
+use Rattle.laws.proofs.Choice.{and-left, and-right}
 use Rattle.record.specs.Records.{recordKind, segmentKind, everydayKind, recordBytes, segmentBytes, everydayBytes, recordLength, isRecord}
 use Rattle.records.specs.Lists.{recordLengths}
 
