@@ -169,7 +169,7 @@ fn the_whole_call_refused() {
     let refused = |number, room, answers| (number, vec![BEFORE; room], vec![BEFORE; answers]);
     // another length than a record has, of no bytes too
     for each in (0..200)
-        .filter(|&each| each != RECORD_BYTES)
+        .filter(|&each| each != RECORD_BYTES && each != SEGMENT_RECORD_BYTES)
         .chain([usize::MAX])
     {
         assert_eq!(block(&[], each, &good, 9, 0, 9), refused(1, 9, 9));
@@ -185,7 +185,9 @@ fn the_whole_call_refused() {
         refused(7, 9, 3_999)
     );
     assert_eq!(block(&[], 40, &bad, 9, 0, 9), refused(3, 9, 9));
+    assert_eq!(block(&zeros, 41, &bad, 9, 0, 0), refused(2, 9, 0));
     // no records, under a good file
+    assert_eq!(block(&[], 41, &good, 9, 99, 9), refused(0, 9, 9));
     assert_eq!(block(&[], 40, &good, 9, 99, 9), refused(0, 9, 9));
 }
 

@@ -5,7 +5,7 @@ use mathlib.Core.List.{List, [], _∷_, _++_}
 use lib.ListN.{drop, set, replicate}
 use Rattle.laws.specs.Lists.{flat}
 use Rattle.promises.specs.Bench.{P2, P2-file, P2-log}
-use Rattle.promises.specs.Rows.{Patch, recordWith, fileKnowing, put, opcode, count, specs, behavior, size, RegRRR, Disp, buffer}
+use Rattle.promises.specs.Rows.{Patch, recordWith, fileKnowing, put, opcode, count, specs, behavior, size, RegRRR, Disp, buffer, segment}
 use Rattle.block.specs.declared.blocks.Blocked.{Blocked}
 use Rattle.block.specs.Blocks.{blockCall}
 
@@ -72,6 +72,11 @@ rows =
     )
     -- a record of another kind than its length says is that record's own 1
     ∷ (block 40 (set ONE 0 0x11 ∷ ONE ∷ []) [] 3 0 8, said 0 2 3 ONE-log (1 ∷ 0 ∷ 0 ∷ 0 ∷ 0 ∷ 3 ∷ 0 ∷ 0 ∷ []))
+    -- records that name a segment: 41 bytes each, and of another kind than that their own 1
+    ∷ (
+      block 41 (recordWith (specs (18 ∷ []) ∷ segment 1 ∷ []) ∷ set (recordWith (segment 1 ∷ [])) 0 0x10 ∷ []) [] 8 0 8,
+      said 0 2 8 (1 ∷ 13 ∷ 0 ∷ 1 ∷ 0 ∷ 0 ∷ 5 ∷ 8 ∷ []) (0 ∷ 8 ∷ 0 ∷ 0 ∷ 1 ∷ 0 ∷ 0 ∷ 0 ∷ []),
+    )
     -- a start past the end: a refused record goes on, and the first accepted one gets 7, even with an empty log
     ∷ (
       block 40 (outside ∷ recordWith [] ∷ ONE ∷ []) [] 3 4 12,
@@ -84,6 +89,7 @@ rows =
     -- the whole call: 1 for the length of a record, of no bytes too, and for a part of a record; 2 for more than 1,000 records; 3 for a
     -- bad file; 7 for the answers' room; each before the next
     ∷ (block 39 [] badFile 3 0 0, said 1 0 0 (buffer 3) [])
+    ∷ (block 42 [] badFile 3 0 0, said 1 0 0 (buffer 3) [])
     ∷ (block 0 [] badFile 3 0 0, said 1 0 0 (buffer 3) [])
     ∷ (block 40 (replicate 40041 0 ∷ []) badFile 3 0 0, said 1 0 0 (buffer 3) [])
     ∷ (block 40 (replicate 40040 0 ∷ []) badFile 3 0 0, said 2 0 0 (buffer 3) [])
