@@ -1,6 +1,7 @@
 // What users call: every call takes bytes and answers one number, whose bits specs/Answers.antt names. No call requires anything.
 mod bits; // bits.rt: which bits of an answer hold what
 mod calls; // calls.rt: the calls on a record and on a log, exported as C
+mod sheets; // sheets.rt: the calls on a sheet, whose words a C caller keeps
 mod watches; // watches.rt: the calls on a watch, whose words a C caller keeps
 
 pub use calls::machhurel_difference;
@@ -10,6 +11,8 @@ pub use calls::machhurel_exceptions;
 pub use calls::machhurel_listing;
 pub use calls::machhurel_privilege;
 pub use calls::machhurel_visit;
+pub use sheets::machhurel_sheet_add;
+pub use sheets::machhurel_sheet_new;
 pub use watches::machhurel_verdict;
 pub use watches::machhurel_watch_new;
 pub use watches::machhurel_watch_step;

@@ -1,4 +1,4 @@
-// The sheet's calls, exported as C: a caller keeps its 99 words. Any words at all get an answer.
+// A sheet's calls: its caller keeps its 99 words. Any words at all get an answer.
 use crate::words::ADDRESS;
 use crate::words::LENGTH;
 use crate::words::LOGS;
@@ -33,8 +33,8 @@ fn refusal(words: &[u64; 99], log: &[u8]) -> u8
     count_events(log).number()
 }
 
-#[no_mangle]
-pub extern "C" fn machhurel_sheet_new(sheet: &mut [u64; 99], address: u64, length: u64) -> u64
+// A new sheet; refused, the words stay.
+pub fn new_sheet(sheet: &mut [u64; 99], address: u64, length: u64) -> u64
     ensures { λ r. ⌜ (r, now (sheet .exit)) ≡ newOf (now (sheet .entry)) address length ⌝ }
 {
     if is_length(length) {
@@ -49,8 +49,7 @@ pub extern "C" fn machhurel_sheet_new(sheet: &mut [u64; 99], address: u64, lengt
 }
 
 // One log more.
-#[no_mangle]
-pub extern "C" fn machhurel_sheet_add(sheet: &mut [u64; 99], log: &[u8]) -> u64
+pub fn add_log(sheet: &mut [u64; 99], log: &[u8]) -> u64
     ensures { λ r. ⌜ (r, now (sheet .exit)) ≡ addOf (now (sheet .entry)) (now (log .entry)) ⌝ }
 {
     let number = refusal(sheet, log);

@@ -6,10 +6,10 @@ use mathlib.Core.Path.{sym, ap, _∙_}
 use mathlib.Core.List.{List}
 use Prim.Native.Nat.{ℕ}
 use borrow.Author.Needs.{needs}
-use Rattle.totals.proofs.sheet.machhurel_sheet_add.Statement.{statement}
-use Rattle.totals.proofs.sheet.machhurel_sheet_add.Tie as tie
-use Rattle.totals.proofs.sheet.machhurel_sheet_add.Reads as reads
-use Rattle.totals.proofs.sheet.machhurel_sheet_add.Lts as lts
+use Rattle.totals.proofs.sheet.add_log.Statement.{statement}
+use Rattle.totals.proofs.sheet.add_log.Tie as tie
+use Rattle.totals.proofs.sheet.add_log.Reads as reads
+use Rattle.totals.proofs.sheet.add_log.Lts as lts
 use Rattle.totals.proofs.sheet.refusal.Reads as refusal-reads
 use Rattle.totals.proofs.words.add_events.Reads as add-events-reads
 use Rattle.totals.proofs.words.raise.Reads as raise-reads
@@ -38,8 +38,8 @@ add-events-requires c κs = taken-when (c .before .before .before .before .befor
 returns-2 : tie.Need-returns-2
 returns-2 c = let w = c .before .before .before .before .before .before .before .before .before .before .args .sheet .now in let l = c .before .before .before .before .before .before .before .before .before .before .args .log .now in took w l _ (c .before .before .before .before .before .before .before .refusal .result) (c .before .before .before .before .before .before .before .refusal .ensures) (c .before .before .before .before .before .before .if1 .left) (c .add-events .ensures ∙ ap (λ (u : List ℕ). raisedBy u (each (additions (variableIn w)) (eventsIn (wholeOf l)))) (c .before .before .raise .ensures) ∙ taken-steps w l)
 
-pub machhurel-sheet-add-spec : {M : Type 1} → statement M
-machhurel-sheet-add-spec =
+pub add-log-spec : {M : Type 1} → statement M
+add-log-spec =
     tie.close
     (tie.spec
     refusal-requires

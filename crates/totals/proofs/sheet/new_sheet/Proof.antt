@@ -1,10 +1,10 @@
 use mathlib.Core.Path.{sym, _∙_}
 use Rattle.totals.specs.Sheets.{newOf, fresh}
 use borrow.Author.Needs.{needs}
-use Rattle.totals.proofs.sheet.machhurel_sheet_new.Statement.{statement}
-use Rattle.totals.proofs.sheet.machhurel_sheet_new.Tie as tie
-use Rattle.totals.proofs.sheet.machhurel_sheet_new.Reads as reads
-use Rattle.totals.proofs.sheet.machhurel_sheet_new.Lts as lts
+use Rattle.totals.proofs.sheet.new_sheet.Statement.{statement}
+use Rattle.totals.proofs.sheet.new_sheet.Tie as tie
+use Rattle.totals.proofs.sheet.new_sheet.Reads as reads
+use Rattle.totals.proofs.sheet.new_sheet.Lts as lts
 use Rattle.watching.proofs.is_length.Reads as is-length-reads
 
 is-length-requires : tie.Need-is-length-requires
@@ -24,6 +24,6 @@ returns-2 : tie.Need-returns-2
 unfolding newOf
 returns-2 c = rw (sym (c .before .is-length .ensures) ∙ c .if1 .left)
 
-pub machhurel-sheet-new-spec : {M : Type 1} → statement M
-machhurel-sheet-new-spec =
+pub new-sheet-spec : {M : Type 1} → statement M
+new-sheet-spec =
     tie.close (tie.spec is-length-requires array-write-words array-write-words-2 returns returns-2)
