@@ -1,5 +1,5 @@
 -- Words that are raised one by one, and by the events of a log from a place on. Assumes nothing.
-use Prim.Native.Nat.{ℕ, _≤_}
+use Prim.Native.Nat.{ℕ}
 use native.Mathlib.Omega.{arith}
 use mathlib.Core.Path.{_≡_, refl, sym, ap, _∙_, subst}
 use mathlib.Core.Bool.{true}
@@ -13,7 +13,7 @@ use Rattle.definition.specs.declared.Event.{Event}
 use Rattle.definition.specs.declared.Reading.{Reading}
 use Rattle.definition.specs.declared.Reading.the-variants.{Found, Bad, Finished}
 use Rattle.definition.specs.Readings.{isEvent, readFront, readAt, placed}
-use Rattle.event.specs.Wholes.{Whole, all, broken, inFront, onward, eventsIn, wholeOf}
+use Rattle.event.specs.Wholes.{Whole, all, broken, inFront, onward, eventsIn}
 use Rattle.event.proofs.Fronts.{Within, within}
 use Rattle.event.proofs.Walks.{wholeAt, turn}
 use Rattle.watching.specs.declared.verdicts.Variable.{Variable}

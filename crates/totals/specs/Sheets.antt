@@ -1,7 +1,7 @@
 -- An acceptance sheet: totals over logs under one watch, as the 99 words that a caller keeps.
 use Prim.Native.Nat.{ℕ, _+_, _%_}
 use mathlib.Core.List.{List, [], _∷_}
-use mathlib.Core.Bool.{Bool, cond, not}
+use mathlib.Core.Bool.{cond, not}
 use lib.ListN.{length, getD, set, replicate}
 use lib.Dec.{eqb, leb, ltb}
 use Rattle.laws.specs.Lists.{each}
@@ -120,3 +120,11 @@ fresh v = v .address ∷ v .length ∷ replicate 97 0
 -- a new sheet: the number, and the words after it; a length that no variable has is refused 2
 unfoldable pub newOf : List ℕ → ℕ → ℕ → ℕ × List ℕ
 newOf w a n = cond (isLength n) (0, fresh (variable a n)) (2, w)
+
+-- the words after logs, from these words on, and from a new sheet's on
+unfoldable pub sheetFrom : List ℕ → List (List ℕ) → List ℕ
+sheetFrom w [] = w
+sheetFrom w (l ∷ ls) = sheetFrom (addOf w l .1) ls
+
+unfoldable pub sheetOf : Variable → List (List ℕ) → List ℕ
+sheetOf v ls = sheetFrom (fresh v) ls

@@ -8,11 +8,6 @@ use Prim.Native.Nat.{ℕ}
 use borrow.Author.Needs.{needs}
 use Rattle.totals.proofs.sheet.add_log.Statement.{statement}
 use Rattle.totals.proofs.sheet.add_log.Tie as tie
-use Rattle.totals.proofs.sheet.add_log.Reads as reads
-use Rattle.totals.proofs.sheet.add_log.Lts as lts
-use Rattle.totals.proofs.sheet.refusal.Reads as refusal-reads
-use Rattle.totals.proofs.words.add_events.Reads as add-events-reads
-use Rattle.totals.proofs.words.raise.Reads as raise-reads
 
 refusal-requires : tie.Need-refusal-requires
 refusal-requires c κs = search needs

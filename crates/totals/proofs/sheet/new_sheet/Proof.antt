@@ -3,9 +3,6 @@ use Rattle.totals.specs.Sheets.{newOf, fresh}
 use borrow.Author.Needs.{needs}
 use Rattle.totals.proofs.sheet.new_sheet.Statement.{statement}
 use Rattle.totals.proofs.sheet.new_sheet.Tie as tie
-use Rattle.totals.proofs.sheet.new_sheet.Reads as reads
-use Rattle.totals.proofs.sheet.new_sheet.Lts as lts
-use Rattle.watching.proofs.is_length.Reads as is-length-reads
 
 is-length-requires : tie.Need-is-length-requires
 is-length-requires c κs = search needs

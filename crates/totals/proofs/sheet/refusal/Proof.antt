@@ -4,11 +4,6 @@ use Rattle.totals.specs.Sheets.{refusalOf}
 use borrow.Author.Needs.{needs}
 use Rattle.totals.proofs.sheet.refusal.Statement.{statement}
 use Rattle.totals.proofs.sheet.refusal.Tie as tie
-use Rattle.totals.proofs.sheet.refusal.Reads as reads
-use Rattle.totals.proofs.sheet.refusal.Lts as lts
-use Rattle.event.proofs.walk.Counted.number.Reads as number-reads
-use Rattle.event.proofs.count_events.Reads as count-events-reads
-use Rattle.watching.proofs.is_length.Reads as is-length-reads
 
 element-copy-out-if1 : tie.Need-element-copy-out-if1
 element-copy-out-if1 c = search needs

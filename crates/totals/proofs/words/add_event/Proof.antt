@@ -1,17 +1,11 @@
 use Prim.Native.Nat.{ℕ}
 use mathlib.Core.List.{List}
-use Rattle.watching.specs.Verdicts.{verdictOf, storeVerdict}
+use Rattle.watching.specs.Verdicts.{verdictOf}
 use Rattle.totals.specs.Sheets.{knownWord, partWord, parts, additions, raised, raisedBy}
 use mathlib.Core.Path.{ap, ap₂, _∙_}
 use borrow.Author.Needs.{needs}
 use Rattle.totals.proofs.words.add_event.Statement.{statement}
 use Rattle.totals.proofs.words.add_event.Tie as tie
-use Rattle.totals.proofs.words.add_event.Reads as reads
-use Rattle.totals.proofs.words.add_event.Lts as lts
-use Rattle.totals.proofs.words.add_memory.Reads as add-memory-reads
-use Rattle.totals.proofs.words.parts.Reads as parts-reads
-use Rattle.totals.proofs.words.raise.Reads as raise-reads
-use Rattle.watching.proofs.verdict_on.Reads as verdict-on-reads
 
 enum-known-e : tie.Need-enum-known-e
 enum-known-e c = search needs

@@ -3,16 +3,12 @@
 use Prim.Native.Nat.{_-_, _≤_, _<_, zero-le}
 use native.Mathlib.Omega.{arith}
 use mathlib.Core.Path.{_≡_, refl, sym, ap, _∙_, subst}
-use mathlib.Core.List.{List}
 use lib.ListN.{length}
 use borrow.Author.Needs.{needs}
-use Rattle.laws.specs.Lists.{each}
 use Rattle.definition.specs.declared.Reading.the-variants.{Found}
 use Rattle.definition.specs.Readings.{readAt}
-use Rattle.event.specs.Wholes.{eventsIn, wholeOf}
 use Rattle.event.proofs.Fronts.{Moves, goes-on}
-use Rattle.event.proofs.Walks.{wholeAt}
-use Rattle.totals.specs.Sheets.{additions, raisedBy}
+use Rattle.totals.specs.Sheets.{raisedBy}
 use Rattle.totals.proofs.Raising.{rest, goes, ends, read-good}
 use Rattle.totals.proofs.words.add_events.Statement.{statement}
 use Rattle.totals.proofs.words.add_events.Tie as tie

@@ -2,9 +2,6 @@ use Rattle.totals.specs.Sheets.{raisedBy}
 use borrow.Author.Needs.{needs}
 use Rattle.totals.proofs.words.add_memory.Statement.{statement}
 use Rattle.totals.proofs.words.add_memory.Tie as tie
-use Rattle.totals.proofs.words.add_memory.Reads as reads
-use Rattle.totals.proofs.words.add_memory.Lts as lts
-use Rattle.totals.proofs.words.raise.Reads as raise-reads
 
 add-raise : tie.Need-add-raise
 add-raise c = search needs

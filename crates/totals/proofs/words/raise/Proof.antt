@@ -3,9 +3,6 @@ use Rattle.totals.specs.Sheets.{raised}
 use borrow.Author.Needs.{needs}
 use Rattle.totals.proofs.words.raise.Statement.{statement}
 use Rattle.totals.proofs.words.raise.Tie as tie
-use Rattle.totals.proofs.words.raise.Reads as reads
-use Rattle.totals.proofs.words.raise.Lts as lts
-use Rattle.std.proofs.num.wrapping_add_u64.Reads as wrapping-add-u64-reads
 
 mul-wrapping-add-u64 : tie.Need-mul-wrapping-add-u64
 mul-wrapping-add-u64 c = search needs
