@@ -60,12 +60,12 @@ fn put_sheet(out: &mut [u8], words: &[u64; 99]) -> usize
 }
 
 // The sheet, or the number that was refused.
-pub fn put_report(out: &mut [u8], number: u8, words: &[u64; 99]) -> usize
+pub fn put_report(out: &mut [u8], number: u64, words: &[u64; 99]) -> usize
     requires { ⌜ size wordBytes (reportText number (now words)) ≤ length (now out) ⌝ }
     ensures { λ r. ⌜ Logged wordBytes (reportText number (now (words .entry))) (now (out .entry)) (now (out .exit)) r ⌝ }
 {
     if number != 0 {
-        return put_around(out, b"refused ", number as u64, b"\n");
+        return put_around(out, b"refused ", number, b"\n");
     }
     put_sheet(out, words)
 }
