@@ -25,6 +25,7 @@
 #define MACHHUREL_REFUSED_OPERAND 5
 #define MACHHUREL_REFUSED_SIZE 6
 #define MACHHUREL_REFUSED_ROOM 7
+#define MACHHUREL_REFUSED_LOGS 10
 
 /* Events of a log, by their first byte. */
 #define MACHHUREL_EVENT_REGISTER_READ 1

@@ -8,7 +8,7 @@ pub enum Refusal {
     /// 1: not 40 bytes of kind 0x10; in a log, an unknown kind or an event cut short.
     Form,
     /// 2: a field outside its table; in a log, a bad register or a size outside 1 to 64; of a watch, a length outside 1 to 8 or a pair
-    /// past the limit.
+    /// past the limit; of a sheet, such a length or a log over 65,536 bytes.
     Field,
     /// 3: the register file is not 141 bytes of kind 0x20, or knows a register that there is not.
     File,
@@ -26,11 +26,13 @@ pub enum Refusal {
         /// How many bytes behind the start the same call needs: those of its log or listing.
         needed: usize,
     },
+    /// 10: the sheet takes no more logs.
+    Logs,
 }
 
 impl Refusal {
     /// The highest number of a refusal.
-    pub const MOST: u8 = 7;
+    pub const MOST: u8 = 10;
 
     /// The refusal's number, and its reason in words.
     const fn row(self) -> (u8, &'static str) {
@@ -42,6 +44,7 @@ impl Refusal {
             Refusal::Operand => (5, "an accessed operand names no register or memory"),
             Refusal::Size => (6, "memory is accessed and its size is 0"),
             Refusal::Room { .. } => (7, "too little room behind the start"),
+            Refusal::Logs => (10, "the sheet takes no more logs"),
         }
     }
 
@@ -55,7 +58,7 @@ impl Refusal {
         self.row().1
     }
 
-    /// The refusal in an answer's bits, or none. The library answers no number above 7.
+    /// The refusal in an answer's bits, or none. The library answers no other number.
     pub(crate) fn of(answer: u64) -> Option<Refusal> {
         Some(match answer & 0xFF {
             0 => return None,
@@ -67,6 +70,7 @@ impl Refusal {
             },
             5 => Refusal::Operand,
             6 => Refusal::Size,
+            10 => Refusal::Logs,
             _ => Refusal::Room {
                 needed: (answer >> 32) as usize,
             },

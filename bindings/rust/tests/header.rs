@@ -74,6 +74,8 @@ fn kinds_lengths_and_bounds() {
     assert_eq!(of("LOG_BYTES"), Some(LOG_BYTES));
     assert_eq!(of("LOG_EVENTS"), Some(LOG_EVENTS));
     assert_eq!(of("LISTING_BYTES"), Some(LISTING_BYTES));
+    assert_eq!(of("SHEET_LOGS"), Some(SHEET_LOGS as usize));
+    assert_eq!(of("SHEET_LOG_BYTES"), Some(SHEET_LOG_BYTES));
 }
 
 #[test]
@@ -91,6 +93,7 @@ fn accesses_refusals_and_lists() {
         Refusal::Operand,
         Refusal::Size,
         Refusal::Room { needed: 0 },
+        Refusal::Logs,
     ];
     for ((number, name), refusal) in group("REFUSED_").into_iter().zip(refusals) {
         assert_eq!(u64::from(refusal.number()), number);

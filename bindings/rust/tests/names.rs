@@ -119,6 +119,7 @@ fn words_of_refusals() {
             Refusal::Room { needed: 32 },
             "refused 7 (32 bytes needed): too little room behind the start",
         ),
+        (Refusal::Logs, "refused 10: the sheet takes no more logs"),
     ] {
         assert_eq!(refusal.to_string(), words);
         assert!(refusal.number() <= Refusal::MOST);
