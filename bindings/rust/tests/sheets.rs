@@ -84,7 +84,7 @@ fn naive_adds(address: u64, length: u64, log: &[u8]) -> Result<Words, u64> {
         rest = after;
         if kind < 3 {
             let (bank, number) = (body[0] as usize, body[1]);
-            if REGISTERS.get(bank).is_none_or(|&count| number >= count) {
+            if !REGISTERS.get(bank).is_some_and(|&count| number < count) {
                 return Err(2);
             }
             words[if kind == 1 { 7 } else { 21 } + bank] += 1;

@@ -59,8 +59,8 @@ rows =
     ∷ ((new, load 8 4 ∷ []), (0 ∷ [], shows ((logsWord, 1) ∷ (inWord, 4) ∷ (sizeWord 4, 1) ∷ [])))
     -- refused logs add nothing and do not count, whatever stands in front of the place: an unknown kind, a size of 0, an event cut short
     ∷ ((new, (store 8 8 ++ (7 ∷ [])) ∷ (5 ∷ 8 ∷ []) ∷ (5 ∷ 8 ∷ 5 ∷ 0 ∷ []) ∷ (5 ∷ []) ∷ []), (1 ∷ 0 ∷ 2 ∷ 1 ∷ [], shows ((logsWord, 1) ∷ (inWord, 8) ∷ (sizeWord 8, 1) ∷ [])))
-    -- the last log within the limit, and the next: 10 for a log that reads and for one that does not
-    ∷ ((set new logsWord (mostLogs - 1), [] ∷ [] ∷ (7 ∷ []) ∷ []), (0 ∷ 10 ∷ 10 ∷ [], shows ((logsWord, mostLogs) ∷ [])))
+    -- the last log within the limit, and the next: 10 for a log that reads, and for one whose own number is 1 or 2
+    ∷ ((set new logsWord (mostLogs - 1), [] ∷ [] ∷ (7 ∷ []) ∷ (5 ∷ 0 ∷ []) ∷ []), (0 ∷ 10 ∷ 10 ∷ 10 ∷ [], shows ((logsWord, mostLogs) ∷ [])))
     -- any words: the watched length is tested before the log, and sums are modulo two to the 64
     ∷ ((set new lengthWord 9, (7 ∷ []) ∷ []), (2 ∷ [], (addressWord, 0x1008) ∷ (lengthWord, 9) ∷ []))
     ∷ ((set new lengthWord 0, [] ∷ []), (2 ∷ [], (addressWord, 0x1008) ∷ []))
