@@ -1,6 +1,6 @@
-// What users call: every call takes bytes and answers one number, whose bits specs/Answers.antt names. No call requires anything.
-mod bits; // bits.rt: which bits of an answer hold what
+// What users call: every call takes bytes and answers one number, whose bits crate answers names. No call requires anything.
 mod calls; // calls.rt: the calls on a record and on a log, exported as C
+mod sessions; // sessions.rt: the calls on a log session, whose words a C caller keeps
 mod sheets; // sheets.rt: the calls on a sheet, whose words a C caller keeps
 mod watches; // watches.rt: the calls on a watch, whose words a C caller keeps
 
@@ -11,6 +11,8 @@ pub use calls::machhurel_exceptions;
 pub use calls::machhurel_listing;
 pub use calls::machhurel_privilege;
 pub use calls::machhurel_visit;
+pub use sessions::machhurel_append;
+pub use sessions::machhurel_reset;
 pub use sheets::machhurel_sheet_add;
 pub use sheets::machhurel_sheet_new;
 pub use watches::machhurel_verdict;
