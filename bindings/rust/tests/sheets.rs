@@ -1,29 +1,12 @@
 //! A sheet against a second reading of document 02's words, over the bytes of the logs: nothing of the library but the two calls is asked.
+mod common;
+
+use common::Random;
 use machhurel::*;
 use std::collections::HashSet;
 
 const WORDS: usize = 99;
 type Words = [u64; WORDS];
-
-/// A small generator with a fixed seed: xorshift.
-struct Random(u64);
-
-impl Random {
-    fn next(&mut self) -> u64 {
-        self.0 ^= self.0 << 13;
-        self.0 ^= self.0 >> 7;
-        self.0 ^= self.0 << 17;
-        self.0
-    }
-
-    fn below(&mut self, n: u64) -> u64 {
-        self.next() % n
-    }
-
-    fn one_of<T: Copy>(&mut self, these: &[T]) -> T {
-        these[self.below(these.len() as u64) as usize]
-    }
-}
 
 /// By bank, how many registers an event may name.
 const REGISTERS: [u8; 13] = [16, 16, 16, 16, 8, 32, 32, 32, 8, 1, 1, 1, 32];
