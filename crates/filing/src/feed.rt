@@ -2,11 +2,17 @@
 use totals::LOGS;
 use totals::MOST_LOG_BYTES;
 use totals::MOST_LOGS;
+use totals::WORDS;
 ghost use mathlib.Core.Path.{_≡_};
 ghost use Prim.Native.Nat.{_≤_};
 ghost use lib.ListN.{length};
 ghost use Rattle.filing.specs.Feeds.{headerBytes, lengthBytes, partSize, startFeed, waitingFeed, headed, logged, sized, completed, stateOf, isFull, isDoneBy, pushed, fed, Ready, endNumber};
 ghost use Rattle.laws.specs.Words.{numberAt};
+
+// The bytes of a header, and of a log's length.
+const HEADER_BYTES: usize = 9;
+
+const LENGTH_BYTES: usize = 4;
 
 // What is under way: an address and a watched length, a log's length, or a log of so many bytes.
 pub enum Part {
@@ -36,8 +42,8 @@ fn size_of(part: Part) -> usize
     ensures { λ r. ⌜ r ≡ partSize part ⌝ }
 {
     match part {
-        Part::Header => 9,
-        Part::Length => 4,
+        Part::Header => HEADER_BYTES,
+        Part::Length => LENGTH_BYTES,
         Part::Log(n) => n,
     }
 }
@@ -53,7 +59,7 @@ fn waiting(number: u64) -> Feed
     }
 }
 
-fn take_header(words: &mut [u64; 99], item: &[u8]) -> Feed
+fn take_header(words: &mut [u64; WORDS], item: &[u8]) -> Feed
     requires { ⌜ headerBytes ≤ length (now item) ⌝ }
     ensures { λ r. ⌜ (r, now (words .exit)) ≡ headed (now (words .entry)) (now (item .entry)) ⌝ }
 {
@@ -61,13 +67,13 @@ fn take_header(words: &mut [u64; 99], item: &[u8]) -> Feed
     waiting(totals::new_sheet(words, address, item[8] as u64))
 }
 
-fn take_log(words: &mut [u64; 99], item: &[u8]) -> Feed
+fn take_log(words: &mut [u64; WORDS], item: &[u8]) -> Feed
     ensures { λ r. ⌜ (r, now (words .exit)) ≡ logged (now (words .entry)) (now (item .entry)) ⌝ }
 {
     waiting(totals::add_log(words, item))
 }
 
-fn take_length(words: &mut [u64; 99], item: &[u8]) -> Feed
+fn take_length(words: &mut [u64; WORDS], item: &[u8]) -> Feed
     requires { ⌜ lengthBytes ≤ length (now item) ⌝ }
     ensures { λ r. ⌜ (r, now (words .exit)) ≡ sized (now (words .entry)) (numberAt (now (item .entry)) 0 4) ⌝ }
 {
@@ -86,7 +92,7 @@ fn take_length(words: &mut [u64; 99], item: &[u8]) -> Feed
 }
 
 // A part that is whole.
-fn complete(part: Part, words: &mut [u64; 99], item: &[u8]) -> Feed
+fn complete(part: Part, words: &mut [u64; WORDS], item: &[u8]) -> Feed
     requires { ⌜ length (now item) ≡ partSize part ⌝ }
     ensures { λ r. ⌜ (r, now (words .exit)) ≡ completed part (now (words .entry)) (now (item .entry)) ⌝ }
 {
@@ -98,7 +104,7 @@ fn complete(part: Part, words: &mut [u64; 99], item: &[u8]) -> Feed
 }
 
 // The limit is reached, and another log begins.
-fn is_full(f: Feed, words: &[u64; 99]) -> bool
+fn is_full(f: Feed, words: &[u64; WORDS]) -> bool
     ensures { λ r. ⌜ r ≡ isFull f (now (words .entry)) ⌝ }
 {
     let part = f.part;
@@ -110,7 +116,7 @@ fn is_full(f: Feed, words: &[u64; 99]) -> bool
 }
 
 // One byte more.
-fn push(f: Feed, words: &mut [u64; 99], carry: &mut [u8], b: u8) -> Feed
+fn push(f: Feed, words: &mut [u64; WORDS], carry: &mut [u8], b: u8) -> Feed
     requires { ⌜ Ready f (now carry) ⌝ }
     ensures { λ r. ⌜ (stateOf r (now (words .exit)) (now (carry .exit)) ≡ pushed (stateOf f (now (words .entry)) (now (carry .entry))) b) × Ready r (now (carry .exit)) ⌝ }
 {
@@ -135,7 +141,7 @@ fn push(f: Feed, words: &mut [u64; 99], carry: &mut [u8], b: u8) -> Feed
 }
 
 // A block.
-pub fn feed_block(f: Feed, words: &mut [u64; 99], carry: &mut [u8], block: &[u8]) -> Feed
+pub fn feed_block(f: Feed, words: &mut [u64; WORDS], carry: &mut [u8], block: &[u8]) -> Feed
     requires { ⌜ Ready f (now carry) ⌝ }
     ensures { λ r. ⌜ (stateOf r (now (words .exit)) (now (carry .exit)) ≡ fed (stateOf f (now (words .entry)) (now (carry .entry))) (now (block .entry))) × Ready r (now (carry .exit)) ⌝ }
 {

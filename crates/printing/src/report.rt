@@ -2,6 +2,17 @@
 use crate::lines::put_around;
 use crate::lines::put_count;
 use crate::lines::put_pair;
+use totals::BANK_COUNT;
+use totals::IN;
+use totals::KNOWN;
+use totals::LOGS;
+use totals::OUT;
+use totals::PART;
+use totals::READS;
+use totals::SIZE_COUNT;
+use totals::SIZES;
+use totals::WORDS;
+use totals::WRITES;
 ghost use Prim.Native.Nat.{_+_, _≤_};
 ghost use lib.ListN.{length};
 ghost use Rattle.laws.specs.Lending.{size, Logged};
@@ -13,7 +24,7 @@ ghost use Rattle.printing.specs.Texts.{countLines, countsText, endText, 
 fn put_counts(
     out: &mut [u8],
     letter: &[u8],
-    words: &[u64; 99],
+    words: &[u64; WORDS],
     base: usize,
     first: usize,
     count: usize,
@@ -31,36 +42,36 @@ fn put_counts(
     n
 }
 
-fn put_all_counts(out: &mut [u8], words: &[u64; 99]) -> usize
+fn put_all_counts(out: &mut [u8], words: &[u64; WORDS]) -> usize
     requires { ⌜ size wordBytes (countsText (now words)) ≤ length (now out) ⌝ }
     ensures { λ r. ⌜ Logged wordBytes (countsText (now (words .entry))) (now (out .entry)) (now (out .exit)) r ⌝ }
 {
-    let a = put_counts(out, b"r", words, 7, 0, 14);
-    let b = a + put_counts(&mut out[a..], b"w", words, 21, 0, 14);
-    b + put_counts(&mut out[b..], b"s", words, 34, 1, 64)
+    let a = put_counts(out, b"r", words, READS, 0, BANK_COUNT);
+    let b = a + put_counts(&mut out[a..], b"w", words, WRITES, 0, BANK_COUNT);
+    b + put_counts(&mut out[b..], b"s", words, SIZES, 1, SIZE_COUNT)
 }
 
 // Bytes read and written, and the part writes.
-fn put_end(out: &mut [u8], words: &[u64; 99]) -> usize
+fn put_end(out: &mut [u8], words: &[u64; WORDS]) -> usize
     requires { ⌜ size wordBytes (endText (now words)) ≤ length (now out) ⌝ }
     ensures { λ r. ⌜ Logged wordBytes (endText (now (words .entry))) (now (out .entry)) (now (out .exit)) r ⌝ }
 {
-    let a = put_around(out, b"in ", words[3], b"\n");
-    let b = a + put_around(&mut out[a..], b"out ", words[4], b"\n");
-    b + put_pair(&mut out[b..], b"part ", words[5], b"/", words[6])
+    let a = put_around(out, b"in ", words[IN], b"\n");
+    let b = a + put_around(&mut out[a..], b"out ", words[OUT], b"\n");
+    b + put_pair(&mut out[b..], b"part ", words[PART], b"/", words[KNOWN])
 }
 
-fn put_sheet(out: &mut [u8], words: &[u64; 99]) -> usize
+fn put_sheet(out: &mut [u8], words: &[u64; WORDS]) -> usize
     requires { ⌜ size wordBytes (sheetText (now words)) ≤ length (now out) ⌝ }
     ensures { λ r. ⌜ Logged wordBytes (sheetText (now (words .entry))) (now (out .entry)) (now (out .exit)) r ⌝ }
 {
-    let a = put_around(out, b"logs ", words[2], b"\n");
+    let a = put_around(out, b"logs ", words[LOGS], b"\n");
     let b = a + put_all_counts(&mut out[a..], words);
     b + put_end(&mut out[b..], words)
 }
 
 // The sheet, or the number that was refused.
-pub fn put_report(out: &mut [u8], number: u64, words: &[u64; 99]) -> usize
+pub fn put_report(out: &mut [u8], number: u64, words: &[u64; WORDS]) -> usize
     requires { ⌜ size wordBytes (reportText number (now words)) ≤ length (now out) ⌝ }
     ensures { λ r. ⌜ Logged wordBytes (reportText number (now (words .entry))) (now (out .entry)) (now (out .exit)) r ⌝ }
 {

@@ -2,6 +2,7 @@
 // anything is printed, in blocks, so that it may be larger than memory.
 use filing::Feed;
 use libc::STDOUT_FILENO;
+use totals::WORDS;
 ghost use Prim.Native.Nat.{_≤_};
 ghost use lib.ListN.{length};
 ghost use Rattle.totals.specs.Sheets.{mostLogBytes};
@@ -15,7 +16,13 @@ struct Turn {
 }
 
 // One block more. No contract can say what is read: what is kept is that the feed stays ready.
-fn take_block(fd: i32, f: Feed, words: &mut [u64; 99], carry: &mut [u8], block: &mut [u8]) -> Turn
+fn take_block(
+    fd: i32,
+    f: Feed,
+    words: &mut [u64; WORDS],
+    carry: &mut [u8],
+    block: &mut [u8],
+) -> Turn
     requires { ⌜ Ready f (now carry) ⌝ }
     ensures { λ r. ⌜ Ready (r .feed) (now (carry .exit)) ⌝ }
 {
@@ -30,7 +37,7 @@ fn take_block(fd: i32, f: Feed, words: &mut [u64; 99], carry: &mut [u8], block: 
 }
 
 // All of them: no run uses the turns up.
-fn take_all(fd: i32, words: &mut [u64; 99], carry: &mut [u8], block: &mut [u8]) -> Turn
+fn take_all(fd: i32, words: &mut [u64; WORDS], carry: &mut [u8], block: &mut [u8]) -> Turn
     requires { ⌜ mostLogBytes ≤ length (now carry) ⌝ }
 {
     let mut f = filing::begin();
@@ -50,7 +57,7 @@ fn take_all(fd: i32, words: &mut [u64; 99], carry: &mut [u8], block: &mut [u8]) 
     }
 }
 
-fn print(f: Feed, words: &[u64; 99]) -> bool {
+fn print(f: Feed, words: &[u64; WORDS]) -> bool {
     let number = filing::end_number(f);
     let mut out = io::buffer();
     let n = printing::put_report(&mut out, number, words);
@@ -59,7 +66,7 @@ fn print(f: Feed, words: &[u64; 99]) -> bool {
 
 // Whether the file was read and the sheet printed.
 fn print_file(fd: i32) -> bool {
-    let mut words = [0u64; 99];
+    let mut words = [0u64; WORDS];
     let mut carry = io::large_buffer();
     let mut block = io::large_buffer();
     let t = take_all(fd, &mut words, &mut carry, &mut block);

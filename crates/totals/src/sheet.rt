@@ -2,6 +2,7 @@
 use crate::words::ADDRESS;
 use crate::words::LENGTH;
 use crate::words::LOGS;
+use crate::words::WORDS;
 use crate::words::add_events;
 use crate::words::raise;
 use event::count_events;
@@ -18,7 +19,7 @@ pub const MOST_LOGS: u64 = 4294967295;
 pub const MOST_LOG_BYTES: usize = 65536;
 
 // Why a log is refused, 0 where it is taken.
-fn refusal(words: &[u64; 99], log: &[u8]) -> u8
+fn refusal(words: &[u64; WORDS], log: &[u8]) -> u8
     ensures { λ r. ⌜ r ≡ refusalOf (now (words .entry)) (now (log .entry)) ⌝ }
 {
     if MOST_LOGS <= words[LOGS] {
@@ -34,11 +35,11 @@ fn refusal(words: &[u64; 99], log: &[u8]) -> u8
 }
 
 // A new sheet; refused, the words stay.
-pub fn new_sheet(sheet: &mut [u64; 99], address: u64, length: u64) -> u64
+pub fn new_sheet(sheet: &mut [u64; WORDS], address: u64, length: u64) -> u64
     ensures { λ r. ⌜ (r, now (sheet .exit)) ≡ newOf (now (sheet .entry)) address length ⌝ }
 {
     if is_length(length) {
-        let mut words = [0u64; 99];
+        let mut words = [0u64; WORDS];
         words[ADDRESS] = address;
         words[LENGTH] = length;
         *sheet = words;
@@ -49,7 +50,7 @@ pub fn new_sheet(sheet: &mut [u64; 99], address: u64, length: u64) -> u64
 }
 
 // One log more.
-pub fn add_log(sheet: &mut [u64; 99], log: &[u8]) -> u64
+pub fn add_log(sheet: &mut [u64; WORDS], log: &[u8]) -> u64
     ensures { λ r. ⌜ (r, now (sheet .exit)) ≡ addOf (now (sheet .entry)) (now (log .entry)) ⌝ }
 {
     let number = refusal(sheet, log);

@@ -14,32 +14,40 @@ ghost use Rattle.event.specs.Wholes.{wholeOf, eventsIn};
 ghost use Rattle.watching.specs.Verdicts.{isLength};
 ghost use Rattle.totals.specs.Sheets.{parts, sizeWord, additions, raised, raisedBy};
 
-// The words' places.
+// How many words a sheet has, and their places. Bank b's reads stand at READS + b, its writes at WRITES + b, memory events of n bytes at
+// SIZES + n.
+pub const WORDS: usize = 99;
+
 pub(crate) const ADDRESS: usize = 0;
 
 pub(crate) const LENGTH: usize = 1;
 
 pub const LOGS: usize = 2;
 
-const IN: usize = 3;
+pub const IN: usize = 3;
 
-const OUT: usize = 4;
+pub const OUT: usize = 4;
 
-const PART: usize = 5;
+pub const PART: usize = 5;
 
-const KNOWN: usize = 6;
+pub const KNOWN: usize = 6;
 
-const READS: usize = 7;
+pub const READS: usize = 7;
 
-const WRITES: usize = 21;
+pub const WRITES: usize = 21;
 
-const SIZES: usize = 34;
+pub const SIZES: usize = 34;
+
+// Banks from 0 on, and sizes from 1 on, that have a word.
+pub const BANK_COUNT: usize = 14;
+
+pub const SIZE_COUNT: usize = 64;
 
 // Past the last word nothing is raised.
-pub(crate) fn raise(words: &mut [u64; 99], i: usize, n: u64)
+pub(crate) fn raise(words: &mut [u64; WORDS], i: usize, n: u64)
     ensures { λ _. ⌜ now (words .exit) ≡ raised (now (words .entry)) i n ⌝ }
 {
-    if i < 99 {
+    if i < WORDS {
         words[i] = std::num::wrapping_add_u64(words[i], n);
     }
 }
@@ -57,14 +65,14 @@ fn parts(v: Verdict) -> u64
 }
 
 // A memory event of n bytes: one more of its size, and its bytes in or out.
-fn add_memory(words: &mut [u64; 99], bytes: usize, n: u8)
+fn add_memory(words: &mut [u64; WORDS], bytes: usize, n: u8)
     ensures { λ _. ⌜ now (words .exit) ≡ raisedBy (now (words .entry)) ((sizeWord n, 1) ∷ (bytes, n) ∷ []) ⌝ }
 {
     raise(words, SIZES + n as usize, 1);
     raise(words, bytes, n as u64);
 }
 
-fn add_event(words: &mut [u64; 99], v: Variable, e: Event)
+fn add_event(words: &mut [u64; WORDS], v: Variable, e: Event)
     requires { ⌜ (isLength (v .length) ≡ true) × (isEvent e ≡ true) ⌝ }
     ensures { λ _. ⌜ now (words .exit) ≡ raisedBy (now (words .entry)) (additions v e) ⌝ }
 {
@@ -84,7 +92,7 @@ fn add_event(words: &mut [u64; 99], v: Variable, e: Event)
 }
 
 // Every event of a log, as far as it reads.
-pub(crate) fn add_events(words: &mut [u64; 99], v: Variable, log: &[u8])
+pub(crate) fn add_events(words: &mut [u64; WORDS], v: Variable, log: &[u8])
     requires { ⌜ isLength (v .length) ≡ true ⌝ }
     ensures { λ _. ⌜ now (words .exit) ≡ raisedBy (now (words .entry)) (each (additions v) (eventsIn (wholeOf (now (log .entry))))) ⌝ }
 {
