@@ -2,9 +2,9 @@
  * Machhurel: which registers and which memory an x86-64 instruction touched, in order.
  *
  * Every call takes bytes and answers one 64-bit number. Any bytes at any length get an answer: no call fails, traps, allocates or keeps
- * anything, and calls may run on any thread at once as long as no two write the same buffer, session or watch. A pointer may be NULL
- * where its length is 0. Otherwise it points to that many bytes, and a buffer, a session or a watch that is written overlaps no other
- * argument.
+ * anything, and calls may run on any thread at once as long as no two write the same buffer, session, watch or sheet. A pointer may be
+ * NULL where its length is 0. Otherwise it points to that many bytes, and a buffer, session, watch or sheet that is written overlaps no
+ * other argument.
  *
  * Records are 40 bytes of kind 0x10, 41 of kind 0x11 or 36 of kind 0x12, register files 141 bytes of kind 0x20 or 157 of kind 0x21;
  * numbers are little-endian. docs/FORMAT.md has every field, table and rule.
@@ -23,13 +23,14 @@
  *
  *   1  the record's kind is unknown, or its length is not the kind's; in a log: an unknown kind, or an event cut short
  *   2  a field of the record is outside its table; in a log: a bad register, or a size outside 1 to 64; of a watch: a length outside
- *      1 to 8, or a pair past the limit; a block of more than 1,000 records
+ *      1 to 8, or a pair past the limit; of a sheet: such a length, or a log over 65,536 bytes; a block of more than 1,000 records
  *   9  the record is of kind 0x12, and its opcode has no base digest
  *   3  the file's kind is unknown, its length is not the kind's, or a known bit above the kind's last is set
  *   4  the instruction is complex: its accesses are not a plain list. The answer carries the opcode
  *   5  an operand that is accessed names no register or memory, or a string list names no string slot
  *   6  memory is accessed and the record's memory size is 0
  *   7  the start lies past the buffer's end, or the buffer has too little room behind it. The answer carries the bytes needed
+ *  10  the sheet takes no more logs
  */
 #ifndef MACHHUREL_H
 #define MACHHUREL_H
@@ -129,6 +130,27 @@ typedef struct machhurel_watch {
 #define MACHHUREL_TOUCHED(answer) MACHHUREL_CAST(uint8_t, (((answer) >> 16) & 0xFF))
 
 /*
+ * An acceptance sheet: totals over all events of the logs taken so far. machhurel_sheet_new writes it, and machhurel_sheet_add goes on with
+ * it. Any words at all get an answer; from machhurel_sheet_new on no total wraps, and each stays below two to the 53.
+ */
+typedef struct machhurel_sheet {
+    uint64_t address;
+    uint64_t length;     /* 1 to 8 bytes */
+    uint64_t logs;       /* taken so far */
+    uint64_t in;         /* bytes of memory read, at unknown addresses too, */
+    uint64_t out;        /* and written */
+    uint64_t part;       /* writes at known addresses that touched part of the variable, */
+    uint64_t known;      /* of so many writes at known addresses */
+    uint64_t reads[14];  /* register reads by bank, */
+    uint64_t writes[14]; /* and writes */
+    uint64_t sizes[64];  /* memory events by size, that of 1 byte first, at unknown addresses too */
+} machhurel_sheet;
+
+/* A sheet takes no more logs, and a log no more bytes. */
+#define MACHHUREL_SHEET_LOGS 4294967295
+#define MACHHUREL_SHEET_LOG_BYTES 65536
+
+/*
  * Writes the log of the record under the register file into log[start..], and answers its length in MACHHUREL_COUNT. Refuses 1 to 7
  * and 9. With MACHHUREL_LOG_BYTES of room behind the start it never refuses 7. After 7 MACHHUREL_COUNT has the length of the log: the
  * same call with so many bytes behind its start succeeds.
@@ -209,6 +231,16 @@ uint64_t machhurel_watch_step(machhurel_watch *watch, const uint8_t *record, siz
  * length in MACHHUREL_COUNT. Refuses 2 for another length than 1 to 8; then answers as machhurel_event does: 1, 2, MACHHUREL_FINISHED.
  */
 uint64_t machhurel_verdict(uint64_t address, uint64_t length, const uint8_t *log, size_t log_len, size_t at);
+
+/* A new sheet, whose watch is of the `length` bytes from `address` on. Refuses 2 for another length than 1 to 8; then nothing changes. */
+uint64_t machhurel_sheet_new(machhurel_sheet *sheet, uint64_t address, uint64_t length);
+
+/*
+ * Adds the events of a log. Refuses 10 at MACHHUREL_SHEET_LOGS, whatever the log is; then 2 where the sheet's length is not 1 to 8, and for
+ * a log of more than MACHHUREL_SHEET_LOG_BYTES; then by the log's own number, 1 or 2, where it does not read whole. A refused log changes
+ * nothing.
+ */
+uint64_t machhurel_sheet_add(machhurel_sheet *sheet, const uint8_t *log, size_t log_len);
 
 #ifdef __cplusplus
 }

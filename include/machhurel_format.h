@@ -37,6 +37,7 @@
 #define MACHHUREL_REFUSED_SIZE 6
 #define MACHHUREL_REFUSED_ROOM 7
 #define MACHHUREL_REFUSED_OPCODE 9
+#define MACHHUREL_REFUSED_LOGS 10
 
 /* Events of a log, by their first byte. */
 #define MACHHUREL_EVENT_REGISTER_READ 1

@@ -47,6 +47,7 @@ mod record;
 mod refusal;
 mod register;
 mod session;
+mod sheet;
 mod spec;
 mod watch;
 
@@ -67,6 +68,7 @@ pub use record::{Record, RecordBuilder, Segment};
 pub use refusal::{Refusal, RefusedRecord};
 pub use register::{bank_name, Register, BANK_COUNT};
 pub use session::Session;
+pub use sheet::{Sheet, SHEET_LOGS, SHEET_LOG_BYTES};
 pub use spec::Spec;
 pub use watch::{verdict, Named, Names, Step, Tally, Verdict, Watch, WATCH_PAIRS};
 

@@ -8,7 +8,7 @@ pub enum Refusal {
     /// 1: an unknown kind, or not the kind's length; in a log, an unknown kind or an event cut short.
     Form,
     /// 2: a field outside its table; in a log, a bad register or a size outside 1 to 64; of a watch, a length outside 1 to 8 or a pair
-    /// past the limit.
+    /// past the limit; of a sheet, such a length or a log over 65,536 bytes.
     Field,
     /// 3: the register file's kind is unknown, its length is not the kind's, or it knows a register that the kind has not.
     File,
@@ -28,11 +28,13 @@ pub enum Refusal {
     },
     /// 9: the record is of the kind that brings no digest, and its opcode has none. Tested after 2 and before 3.
     Opcode,
+    /// 10: the sheet takes no more logs.
+    Logs,
 }
 
 impl Refusal {
     /// The highest number of a refusal.
-    pub const MOST: u8 = 9;
+    pub const MOST: u8 = 10;
 
     /// The refusal's number, and its reason in words.
     const fn row(self) -> (u8, &'static str) {
@@ -45,6 +47,7 @@ impl Refusal {
             Refusal::Size => (6, "memory is accessed and its size is 0"),
             Refusal::Room { .. } => (7, "too little room behind the start"),
             Refusal::Opcode => (9, "kind 0x12 has no digest for this opcode"),
+            Refusal::Logs => (10, "the sheet takes no more logs"),
         }
     }
 
@@ -71,6 +74,7 @@ impl Refusal {
             5 => Refusal::Operand,
             6 => Refusal::Size,
             9 => Refusal::Opcode,
+            10 => Refusal::Logs,
             _ => Refusal::Room {
                 needed: (answer >> 32) as usize,
             },

@@ -81,6 +81,8 @@ fn kinds_lengths_and_bounds() {
     assert_eq!(of("LISTING_BYTES"), Some(LISTING_BYTES));
     assert_eq!(of("BLOCK_RECORDS"), Some(BLOCK_RECORDS));
     assert_eq!(of("ANSWER_BYTES"), Some(ANSWER_BYTES));
+    assert_eq!(of("SHEET_LOGS"), Some(SHEET_LOGS as usize));
+    assert_eq!(of("SHEET_LOG_BYTES"), Some(SHEET_LOG_BYTES));
 }
 
 #[test]
@@ -99,6 +101,7 @@ fn accesses_refusals_and_lists() {
         Refusal::Size,
         Refusal::Room { needed: 0 },
         Refusal::Opcode,
+        Refusal::Logs,
     ];
     for ((number, name), refusal) in group("REFUSED_").into_iter().zip(refusals) {
         assert_eq!(u64::from(refusal.number()), number);

@@ -130,6 +130,7 @@ fn words_of_refusals() {
             Refusal::Opcode,
             "refused 9: kind 0x12 has no digest for this opcode",
         ),
+        (Refusal::Logs, "refused 10: the sheet takes no more logs"),
     ] {
         assert_eq!(refusal.to_string(), words);
         assert!(refusal.number() <= Refusal::MOST);
