@@ -190,10 +190,10 @@ uint64_t machhurel_difference(const uint8_t *first, size_t first_len, const uint
                               uint64_t *at);
 
 /*
- * Visits up to MACHHUREL_BLOCK_RECORDS records of `each` bytes (MACHHUREL_RECORD_BYTES) under one register file, which is parsed
- * once. Their logs go into log[start..] behind one another, without a gap, and equal those of single calls. Each record gets
+ * Visits up to MACHHUREL_BLOCK_RECORDS records of `each` bytes, the length of one of the three kinds, under one register file, which is
+ * parsed once. Their logs go into log[start..] behind one another, without a gap, and equal those of single calls. Each record gets
  * MACHHUREL_ANSWER_BYTES in `answers`: its number, the length of its log (after 7 the bytes needed), and the opcode after 4 as two
- * bytes, low byte first, else 0. A record that is refused 1, 2, 4, 5 or 6 writes no log, and the next goes on. The first that is
+ * bytes, low byte first, else 0. A record that is refused 1, 2, 9, 4, 5 or 6 writes no log, and the next goes on. The first that is
  * refused 7 gets its answer and ends the call: all later bytes of both buffers stay. MACHHUREL_NUMBER is 0 then, MACHHUREL_RECORDS the
  * number of records before it, which are all where none is refused 7, and MACHHUREL_COUNT the bytes of log written. With
  * MACHHUREL_LOG_BYTES a record behind the start none is.

@@ -264,7 +264,12 @@ impl RecordBuilder {
         let bytes = bytes_of(&self.bytes);
         let answer = visit(bytes, &RegisterFile::new(), &mut [0; LOG_BYTES], 0);
         match answer {
-            Ok(_) | Err(Refusal::Complex { .. }) => Ok(Record(self.bytes)),
+            Ok(_) | Err(Refusal::Complex { .. }) => {
+                // what the kind has no byte for is no part of the record
+                let mut record = [0; SEGMENT_RECORD_BYTES];
+                record[..bytes.len()].copy_from_slice(bytes);
+                Ok(Record(record))
+            }
             Err(refusal) => Err(refusal),
         }
     }
