@@ -9,13 +9,13 @@ const WORDS: usize = 99;
 type Words = [u64; WORDS];
 
 /// By bank, how many registers an event may name.
-const REGISTERS: [u8; 13] = [16, 16, 16, 16, 8, 32, 32, 32, 8, 1, 1, 1, 32];
+const REGISTERS: [u8; 14] = [16, 16, 16, 16, 8, 32, 32, 32, 8, 1, 1, 1, 32, 2];
 
 fn any_event(random: &mut Random, address: u64, log: &mut Vec<u8>) {
     let kind = 1 + random.below(6) as u8;
     log.push(kind);
     if kind < 3 {
-        let bank = random.below(13) as u8;
+        let bank = random.below(14) as u8;
         let number = random.below(REGISTERS[bank as usize].into()) as u8;
         log.extend([bank, number]);
         return;
