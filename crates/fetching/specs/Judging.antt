@@ -51,16 +51,13 @@ judge v bs = cond (ltb v (2 ^ setBits)) (judgeFrom v 0 bs) judged.NoSuchBit
 unfoldable pub proposed : List (List ℕ) → ℕ
 proposed bs = bitsFrom (λ (k : ℕ). isIn k (each needsOf bs)) 0 setBits
 
--- Both over the bytes of a list of records
+-- Both over the bytes of a list of records, n bytes each
 unfoldable pub judgeCall : List ℕ → ℕ → ℕ → Judgement
-judgeCall b each v =
-    cond (eqb (listRefusal (length b) each) 0) (judge v (recordsIn each b)) (judged.Refused (listRefusal (length b) each))
+judgeCall b n v = cond (eqb (listRefusal (length b) n) 0) (judge v (recordsIn n b)) (judged.Refused (listRefusal (length b) n))
 
 unfoldable pub proposeCall : List ℕ → ℕ → Proposal
-proposeCall b each =
-    cond (eqb (listRefusal (length b) each) 0)
-    (proposals.Done (proposed (recordsIn each b)))
-    (proposals.Refused (listRefusal (length b) each))
+proposeCall b n =
+    cond (eqb (listRefusal (length b) n) 0) (proposals.Done (proposed (recordsIn n b))) (proposals.Refused (listRefusal (length b) n))
 
 -- a file that knows only the registers of a set, of those that it knew
 unfoldable pub restricted : ℕ → RegisterFile → RegisterFile

@@ -80,7 +80,7 @@ module _ (f g : RegisterFile) (more : Extends f g) where
 
 -- the second half
 module _ (f g : RegisterFile) where
-  abbrev agree : List RegSpec → Type 0
+  abbrev pub agree : List RegSpec → Type 0
   agree ys = (y : RegSpec) → List·Memᴰ y ys → valueOf f y ≡ valueOf g y
 
   term-agrees : (t : Term) → agree (termRegisters t) → termOf f t ≡ termOf g t
@@ -89,7 +89,8 @@ module _ (f g : RegisterFile) where
   term-agrees (Plain y) h = h y (List·Memᴰ·head refl)
   term-agrees (Scaled y k) h = rw (h y (List·Memᴰ·head refl))
 
-  address-agrees : (a : Address) → agree (registersOf a) → addressOf f a ≡ addressOf g a
+  -- where an address lies depends on its own registers alone
+  pub address-agrees : (a : Address) → agree (registersOf a) → addressOf f a ≡ addressOf g a
   unfolding addressOf registersOf
   address-agrees a h =
       simp (
