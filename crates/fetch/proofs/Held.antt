@@ -1,0 +1,47 @@
+-- The slot of a register by its bank. Assumes nothing.
+use Prim.Native.Nat.{ℕ, _-_, _≤_, _<_}
+use native.Mathlib.Omega.{arith}
+use mathlib.Core.Path.{_≡_, refl, sym, ap, _∙_}
+use mathlib.Core.Logic.{inl, inr}
+use mathlib.Core.Bool.{Bool, true, false, cond}
+use lib.ListN.{getD, List·getD-eq-default}
+use lib.Dec.{ltb}
+use borrow.Author.Tests.{lt-ltb, le-ltb}
+use Rattle.laws.proofs.Span.{span}
+use Rattle.registers.specs.Banks.{reg, isRegister}
+use Rattle.registers.specs.Files.{Part, nowhere, bankParts, partOf}
+use Rattle.fetching.specs.Needs.{heldRegisters}
+
+picked : (t : Bool) (p : Part) → cond t (p .slot) heldRegisters ≡ cond t p nowhere .slot
+picked true p = refl
+picked false p = refl
+
+module _ (bank number : ℕ) where
+  pub general-slot : bank ≤ 3 → cond (ltb number 16) number heldRegisters ≡ partOf (reg bank number) .slot
+  unfolding partOf isRegister
+  general-slot h =
+      span (λ (b : ℕ). cond (ltb number 16) number heldRegisters ≡ partOf (reg b number) .slot) 0 4
+      (picked (ltb number 16) _, (picked (ltb number 16) _, (picked (ltb number 16) _, (picked (ltb number 16) _, tt))))
+      bank (omega arith) (omega arith)
+
+  pub pointer-slot : 9 ≤ bank → bank ≤ 10 → cond (ltb number 1) 16 heldRegisters ≡ partOf (reg bank number) .slot
+  unfolding partOf isRegister
+  pointer-slot l h =
+      span (λ (b : ℕ). cond (ltb number 1) 16 heldRegisters ≡ partOf (reg b number) .slot) 9 2
+      (picked (ltb number 1) _, (picked (ltb number 1) _, tt))
+      bank l (omega arith)
+
+  -- what lies nowhere, whether the bank has the number or not
+  unplaced : getD (bankParts number) bank nowhere ≡ nowhere → heldRegisters ≡ partOf (reg bank number) .slot
+  unfolding partOf
+  unplaced e = rw e (either (isRegister bank number))
+    where
+      either : (t : Bool) → heldRegisters ≡ cond t nowhere nowhere .slot
+      either true = refl
+      either false = refl
+
+  pub vector-slot : 5 ≤ bank → bank ≤ 8 → heldRegisters ≡ partOf (reg bank number) .slot
+  vector-slot l h = unplaced (span (λ (b : ℕ). getD (bankParts number) b nowhere ≡ nowhere) 5 4 (refl, (refl, (refl, (refl, tt)))) bank l (omega arith))
+
+  pub other-slot : 11 ≤ bank → heldRegisters ≡ partOf (reg bank number) .slot
+  other-slot l = unplaced (List·getD-eq-default (bankParts number) nowhere {n = bank} l)

@@ -1,0 +1,6 @@
+pub mod Held
+pub mod Specs
+pub mod Lists
+pub mod Parts
+pub mod Records
+pub mod Walks

@@ -1,0 +1,30 @@
+// The C interface: include/machhurel.h says it in C's words.
+use fetching::Judgement;
+use fetching::Proposal;
+ghost use mathlib.Core.Path.{_≡_};
+ghost use Rattle.fetching.specs.Judging.{judgeCall, proposeCall};
+ghost use Rattle.fetch.specs.Answers.{judgementBits, proposalBits};
+
+#[no_mangle]
+pub extern "C" fn machhurel_fetch_judge(bytes: &[u8], each: usize, set: u32) -> u64
+    ensures { λ r. ⌜ r ≡ judgementBits (judgeCall (now (bytes .entry)) each set) ⌝ }
+{
+    let said = crate::judging::judge(bytes, each, set);
+    match said {
+        Judgement::Accepted => 0x100,
+        Judgement::NoSuchBit => 0,
+        Judgement::Lacking(i, k) => (k as u64) * 0x1_0000 + (i as u64) * 0x1_0000_0000,
+        Judgement::Refused(number) => number as u64,
+    }
+}
+
+#[no_mangle]
+pub extern "C" fn machhurel_fetch_propose(bytes: &[u8], each: usize) -> u64
+    ensures { λ r. ⌜ r ≡ proposalBits (proposeCall (now (bytes .entry)) each) ⌝ }
+{
+    let said = crate::judging::propose(bytes, each);
+    match said {
+        Proposal::Done(set) => (set as u64) * 0x1_0000_0000,
+        Proposal::Refused(number) => number as u64,
+    }
+}
