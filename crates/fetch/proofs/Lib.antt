@@ -4,3 +4,4 @@ pub mod Lists
 pub mod Parts
 pub mod Records
 pub mod Walks
+pub mod Few

@@ -52,7 +52,11 @@ fn with_register(set: u32, y: RegSpec) -> u32
     ensures { λ r. ⌜ r ≡ joined set (slotsOf y) ⌝ }
 {
     let slot = slot_of(y);
-    if slot < HELD { sets::with(set, slot) } else { set }
+    if slot < HELD {
+        sets::with(set, slot)
+    } else {
+        set
+    }
 }
 
 // The register of a term of an address, times whatever scale, 0 too.

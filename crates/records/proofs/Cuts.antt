@@ -38,6 +38,12 @@ listed n each e =
       few = ltb-false mostRecords (n / each) (t .1 .1 .0);
     }
 
+-- there are as many records as are cut
+pub cut-length : (n each : ℕ) (b : List ℕ) → length (cut n each b) ≡ n
+unfolding cut
+cut-length zero each b = refl
+cut-length (suc n) each b = ap suc (cut-length n each (drop each b))
+
 -- record i lies inside
 pub inside : {n each : ℕ} (i : ℕ) → Listed n each → i < n / each → i * each + each ≤ n
 inside {n} {each} i l h =

@@ -1,65 +1,64 @@
+use native.Mathlib.Omega.{arith}
+use Prim.Native.Nat.{_<_}
+use mathlib.Core.Path.{sym, _∙_}
 use borrow.Author.Needs.{needs}
+use Rattle.records.specs.Lists.{mostRecords}
+use Rattle.fetch.specs.Answers.{judgementBits}
+use Rattle.fetch.proofs.Few.{named-few}
 use Rattle.fetch.proofs.answers.machhurel_fetch_judge.Statement.{statement}
 use Rattle.fetch.proofs.answers.machhurel_fetch_judge.Tie as tie
-use Rattle.fetch.proofs.answers.machhurel_fetch_judge.Reads as reads
-use Rattle.fetch.proofs.answers.machhurel_fetch_judge.Lts as lts
-use Rattle.fetch.proofs.judging.judge.Reads as judge-reads
 
--- src/answers.rt:12:9
 judge-requires : tie.Need-judge-requires
 judge-requires c κs = search needs
 
--- src/answers.rt:14:32
 enum-told : tie.Need-enum-told
 enum-told c = search needs
 
--- src/answers.rt:15:33
 enum-told-2 : tie.Need-enum-told-2
 enum-told-2 c = search needs
 
--- src/answers.rt:16:28
 enum-known-said : tie.Need-enum-known-said
 enum-known-said c = search needs
 
--- src/answers.rt:16:38
 cast-result : tie.Need-cast-result
 cast-result c = search needs
 
--- src/answers.rt:16:37
 mul-result : tie.Need-mul-result
 mul-result c = search needs
 
--- src/answers.rt:16:61
+-- the record that is named is one of few
+few : (c : tie.After-known-told) → c .before .said .given .0 .0 < mostRecords
+few c =
+    let a = c .before .before .before .before .before .args in
+    named-few (a .bytes .now) (a .each) (a .set) _ (c .before .said .given .0 .1 .0) (sym (c .before .before .before .judge .ensures) ∙ c .before .said .given .1)
+
 mul-result-2 : tie.Need-mul-result-2
-mul-result-2 c = ?
+mul-result-2 c = record { fits = omega (arith, few c) }
 
--- src/answers.rt:16:37
 add-result : tie.Need-add-result
-add-result c = ?
+add-result c = record { fits = omega (arith, few c) }
 
--- src/answers.rt:17:28
 enum-known-said-2 : tie.Need-enum-known-said-2
 enum-known-said-2 c = search needs
 
--- src/answers.rt:17:39
 cast-result-2 : tie.Need-cast-result-2
 cast-result-2 c = search needs
 
--- src/answers.rt:8:1
 returns : tie.Need-returns
-returns c = ?
+unfolding judgementBits
+returns c = rw (sym (c .before .before .judge .ensures) ∙ c .enum-told .given .1)
 
--- src/answers.rt:8:1
 returns-2 : tie.Need-returns-2
-returns-2 c = ?
+unfolding judgementBits
+returns-2 c = rw (sym (c .before .before .judge .ensures) ∙ c .enum-told2 .given .1)
 
--- src/answers.rt:8:1
 returns-3 : tie.Need-returns-3
-returns-3 c = ?
+unfolding judgementBits
+returns-3 c = rw (sym (c .before .before .before .judge .ensures) ∙ c .before .said .given .1)
 
--- src/answers.rt:8:1
 returns-4 : tie.Need-returns-4
-returns-4 c = ?
+unfolding judgementBits
+returns-4 c = rw (sym (c .before .before .before .judge .ensures) ∙ c .before .said2 .given .1)
 
 pub machhurel-fetch-judge-spec : {M : Type 1} → statement M
 machhurel-fetch-judge-spec =

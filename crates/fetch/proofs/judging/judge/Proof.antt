@@ -1,30 +1,27 @@
 use borrow.Author.Needs.{needs}
+use borrow.Author.Tests.{ne-eqb, eq-eqb, lt-ltb, le-ltb}
+use Rattle.fetching.specs.Judging.{judge, judgeCall}
 use Rattle.fetch.proofs.judging.judge.Statement.{statement}
 use Rattle.fetch.proofs.judging.judge.Tie as tie
-use Rattle.fetch.proofs.judging.judge.Reads as reads
-use Rattle.fetch.proofs.judging.judge.Lts as lts
-use Rattle.fetch.proofs.judging.judge_records.Reads as judge-records-reads
-use Rattle.records.proofs.list_refusal.Reads as list-refusal-reads
 
--- src/judging.rt:76:9
 list-refusal-requires : tie.Need-list-refusal-requires
 list-refusal-requires c κs = search needs
 
--- src/judging.rt:78:9
 returns : tie.Need-returns
-returns c = ?
+unfolding judgeCall
+returns c = rw (← (c .before .list-refusal .ensures), ne-eqb _ 0 (c .if1 .taken))
 
--- src/judging.rt:81:9
 judge-records-requires : tie.Need-judge-records-requires
 judge-records-requires c κs = search needs
 
--- src/judging.rt:81:9
 returns-2 : tie.Need-returns-2
-returns-2 c = ?
+unfolding judgeCall judge
+returns-2 c =
+    rw (← (c .before .before .before .list-refusal .ensures), eq-eqb _ 0 (c .before .before .if1 .left), lt-ltb _ _ (c .before .if2 .taken)) (c .judge-records .ensures)
 
--- src/judging.rt:73:1
 returns-3 : tie.Need-returns-3
-returns-3 c = ?
+unfolding judgeCall judge
+returns-3 c = rw (← (c .before .before .list-refusal .ensures), eq-eqb _ 0 (c .before .if1 .left), le-ltb _ _ (c .if2 .left))
 
 pub judge-spec : {M : Type 1} → statement M
 judge-spec =
