@@ -18,9 +18,10 @@
  * Refusal numbers, tested in this order; a refused call changes no byte of a buffer, and but for what 4 and 7 carry every other part
  * of its answer is 0:
  *
- *   1  the record is not 40 bytes of kind 0x10; in a log: an unknown kind, or an event cut short
+ *   1  the record is not 40 bytes of kind 0x10; in a log: an unknown kind, or an event cut short; of a list of records: no record's
+ *      length, or bytes that are no multiple of it
  *   2  a field of the record is outside its table; in a log: a bad register, or a size outside 1 to 64; of a watch: a length outside
- *      1 to 8, or a pair past the limit
+ *      1 to 8, or a pair past the limit; of a list of records: too many
  *   3  the file is not 141 bytes of kind 0x20, or a known bit above 16 is set
  *   4  the instruction is complex: its accesses are not a plain list. The answer carries the opcode
  *   5  an operand that is accessed names no register or memory, or a string list names no string slot
@@ -106,6 +107,20 @@ typedef struct machhurel_watch {
 #define MACHHUREL_VERDICT(answer) MACHHUREL_CAST(unsigned, (((answer) >> 8) & 0xFF))
 #define MACHHUREL_TOUCHED(answer) MACHHUREL_CAST(uint8_t, (((answer) >> 16) & 0xFF))
 
+/* No list of records has more. */
+#define MACHHUREL_BLOCK_RECORDS 1000
+
+/* A set of registers has a bit for each known bit of a register file (0-15 rax to r15, 16 rip), and 17 and 18 for the bases of fs and gs. */
+#define MACHHUREL_SET_BITS 19
+
+/* machhurel_fetch_judge: 1 where the set is accepted; else the lowest bit that the first lacking record lacks, and its number from 0. */
+#define MACHHUREL_ACCEPTED(answer) MACHHUREL_CAST(unsigned, (((answer) >> 8) & 1))
+#define MACHHUREL_LACKED(answer) MACHHUREL_CAST(unsigned, (((answer) >> 16) & 0xFF))
+#define MACHHUREL_LACKING(answer) MACHHUREL_CAST(uint32_t, ((answer) >> 32))
+
+/* machhurel_fetch_propose: the set. */
+#define MACHHUREL_SET(answer) MACHHUREL_CAST(uint32_t, ((answer) >> 32))
+
 /*
  * Writes the log of the record under the register file into log[start..], and answers its length in MACHHUREL_COUNT. Refuses 1 to 7. With
  * MACHHUREL_LOG_BYTES of room behind the start it never refuses 7. After 7 MACHHUREL_COUNT has the length of the log: the same call with
@@ -160,6 +175,19 @@ uint64_t machhurel_watch_step(machhurel_watch *watch, const uint8_t *record, siz
  * length in MACHHUREL_COUNT. Refuses 2 for another length than 1 to 8; then answers as machhurel_event does: 1, 2, MACHHUREL_FINISHED.
  */
 uint64_t machhurel_verdict(uint64_t address, uint64_t length, const uint8_t *log, size_t log_len, size_t at);
+
+/*
+ * Judges a set of registers for a list of records, one after another, `each` bytes long (MACHHUREL_RECORD_BYTES): MACHHUREL_ACCEPTED where
+ * no bit above 18 is set and every register that enters the address of a logged memory access is in the set, for each record that a visit
+ * under a good file with room does not refuse. A register counts as its full one: ah as rax, eip as rip. Of the set every such record is
+ * visited alike under a file and under the same file that knows no more than the set. Not accepted and no bit above 18: MACHHUREL_LACKED is
+ * the lowest bit that the first lacking record lacks, MACHHUREL_LACKING that record's number. Refuses 1 where `each` is no record's length
+ * or the bytes are no multiple of it, 2 for more than MACHHUREL_BLOCK_RECORDS records.
+ */
+uint64_t machhurel_fetch_judge(const uint8_t *records, size_t records_len, size_t each, uint32_t set);
+
+/* The least set that machhurel_fetch_judge accepts for the list, in MACHHUREL_SET. Refuses 1, 2 as it does. */
+uint64_t machhurel_fetch_propose(const uint8_t *records, size_t records_len, size_t each);
 
 #ifdef __cplusplus
 }

@@ -23,6 +23,7 @@ mod arguments;
 mod choice;
 pub mod command;
 mod difference;
+mod fetch;
 mod format;
 pub mod help;
 mod line;

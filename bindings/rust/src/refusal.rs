@@ -5,10 +5,11 @@ use core::fmt;
 /// Why a call was refused. A refused call changes no byte of a buffer.
 #[derive(Clone, Copy, Debug, PartialEq, Eq, Hash)]
 pub enum Refusal {
-    /// 1: not 40 bytes of kind 0x10; in a log, an unknown kind or an event cut short.
+    /// 1: not 40 bytes of kind 0x10; in a log, an unknown kind or an event cut short; of a list of records, no record's length or bytes
+    /// that are no multiple of it.
     Form,
     /// 2: a field outside its table; in a log, a bad register or a size outside 1 to 64; of a watch, a length outside 1 to 8 or a pair
-    /// past the limit.
+    /// past the limit; of a list, too many records.
     Field,
     /// 3: the register file is not 141 bytes of kind 0x20, or knows a register that there is not.
     File,

@@ -10,6 +10,8 @@ pub use calls::machhurel_exceptions;
 pub use calls::machhurel_listing;
 pub use calls::machhurel_privilege;
 pub use calls::machhurel_visit;
+pub use fetch::machhurel_fetch_judge; // the calls on a set of registers are exported where they are proved
+pub use fetch::machhurel_fetch_propose;
 pub use watches::machhurel_verdict;
 pub use watches::machhurel_watch_new;
 pub use watches::machhurel_watch_step;
