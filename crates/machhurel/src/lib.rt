@@ -1,6 +1,6 @@
-// What users call: every call takes bytes and answers one number, whose bits specs/Answers.antt names. No call requires anything.
-mod bits; // bits.rt: which bits of an answer hold what
+// What users call: every call takes bytes and answers one number, whose bits crate answers names. No call requires anything.
 mod calls; // calls.rt: the calls on a record and on a log, exported as C
+mod fetches; // fetches.rt: the calls on a set of registers for a list of records
 mod watches; // watches.rt: the calls on a watch, whose words a C caller keeps
 
 pub use calls::machhurel_difference;
@@ -10,8 +10,8 @@ pub use calls::machhurel_exceptions;
 pub use calls::machhurel_listing;
 pub use calls::machhurel_privilege;
 pub use calls::machhurel_visit;
-pub use fetch::machhurel_fetch_judge; // the calls on a set of registers are exported where they are proved
-pub use fetch::machhurel_fetch_propose;
+pub use fetches::machhurel_fetch_judge;
+pub use fetches::machhurel_fetch_propose;
 pub use watches::machhurel_verdict;
 pub use watches::machhurel_watch_new;
 pub use watches::machhurel_watch_step;
