@@ -110,7 +110,7 @@ typedef struct machhurel_watch {
 /* No list of records has more. */
 #define MACHHUREL_BLOCK_RECORDS 1000
 
-/* A set of registers has a bit for each known bit of a register file (0-15 rax to r15, 16 rip), and 17 and 18 for the bases of fs and gs. */
+/* A set has a bit for each register that a file can know (0-15 rax to r15, 16 rip), and 17 and 18 for the bases of fs and gs. */
 #define MACHHUREL_SET_BITS 19
 
 /* machhurel_fetch_judge: 1 where the set is accepted; else the lowest bit that the first lacking record lacks, and its number from 0. */

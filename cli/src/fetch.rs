@@ -52,12 +52,9 @@ impl Needs {
 
     /// What is proposed for two lists together is the union of what is proposed for each.
     fn unite(&mut self) {
-        if self.held > 0 {
-            match fetch_propose(&self.block, self.each) {
-                Ok(set) => self.set = self.set.union(set),
-                // not a list of records: each of them is refused by itself, and counted so
-                Err(_) => {}
-            }
+        // records of a length that the library has not: each is refused by itself, and counted so
+        if let Ok(set) = fetch_propose(&self.block, self.each) {
+            self.set = self.set.union(set);
         }
         self.block.clear();
         self.held = 0;
@@ -104,9 +101,10 @@ fn put_needs(output: &mut Output, kind: Kind, walk: &Walk, needs: &Needs) {
     let (set, refused, names) = (needs.set.0, needs.refused, needs.names());
     match kind {
         Kind::Text => {
-            let said = match names.is_empty() {
-                true => "none".to_string(),
-                false => names.join(", "),
+            let said = if names.is_empty() {
+                "none".to_string()
+            } else {
+                names.join(", ")
             };
             put!(out, "{name}\n    registers to fetch    {said}\n");
             put!(out, "    as a set              0x{set:05x}\n");
@@ -120,7 +118,10 @@ fn put_needs(output: &mut Output, kind: Kind, walk: &Walk, needs: &Needs) {
         Kind::Json => {
             let quoted: Vec<_> = names.iter().map(|name| json_quoted(name)).collect();
             let (name, registers) = (json_quoted(name), quoted.join(","));
-            put!(out, "{{\"trace\":{name},\"records\":{records},\"refused\":{refused},");
+            put!(
+                out,
+                "{{\"trace\":{name},\"records\":{records},\"refused\":{refused},"
+            );
             put!(out, "\"set\":{set},\"registers\":[{registers}]}}\n");
         }
     }
