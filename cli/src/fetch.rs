@@ -16,9 +16,9 @@ pub(crate) const COMMAND: Command = Command {
     purpose: "the registers that the recorder must fetch for the records of a trace",
     details: "\
 Says which registers enter the address of a memory access of a trace's records, by name and as a set of known bits. Under register
-files that know these registers, and no others, every record gets the log that it would get under files that know them all. No
-smaller set does. The register files of the trace are not looked at: a record counts before the first file too. A record that a
-visit refuses whatever the file counts nothing; how many there were is said.
+files that know these registers, and no others, every record gets the log that it would get under files that know them all; each
+of them enters an address that is unknown without it. The register files of the trace are not looked at: a record counts before
+the first file too. A record that a visit refuses whatever the file counts nothing; how many there were is said.
 ",
     choices: &[FORMAT],
     closing: help::common,
