@@ -22,6 +22,7 @@
 mod arguments;
 mod choice;
 pub mod command;
+pub mod completion;
 mod difference;
 mod fetch;
 mod format;

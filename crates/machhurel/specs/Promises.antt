@@ -8,6 +8,8 @@ use Rattle.definition.specs.Listings.{listingCall}
 use Rattle.definition.specs.Readings.{readAt}
 use Rattle.definition.specs.Visits.{visitOf}
 use Rattle.difference.specs.Partings.{partedOf}
+use Rattle.session.specs.Sessions.{appended}
+use Rattle.session.specs.Words.{sessionIn, inWords, emptyWords}
 use Rattle.watching.specs.Traces.{newOf, stepOf}
 use Rattle.watching.specs.Verdicts.{variable, nameAt}
 use Rattle.fetching.specs.Judging.{judgeCall, proposeCall}
@@ -32,5 +34,7 @@ EveryExportDetermined =
     × OneOutcome (newWords (newOf address length) words)
     × OneOutcome {A = ℕ × List ℕ} (steppedBits (stepOf (watchIn words) (b, f)), wordsOf (stepOf (watchIn words) (b, f) .watch))
     × OneOutcome (namingBits s (nameAt (variable address length) p s))
+    × OneOutcome (inWords (appended b f (sessionIn words, p)))
+    × OneOutcome emptyWords
     × OneOutcome (judgementBits (judgeCall b each set))
     × OneOutcome (proposalBits (proposeCall b each))

@@ -56,6 +56,24 @@ pub fn machhurel_difference(first: &[u8], second: &[u8], at: &mut u64) -> u64 {
     }
 }
 
+pub fn machhurel_append(session: &mut [u64; 3], record: &[u8], file: &[u8], log: &mut [u8]) -> u64 {
+    unsafe {
+        ffi::machhurel_append(
+            session,
+            record.as_ptr(),
+            record.len(),
+            file.as_ptr(),
+            file.len(),
+            log.as_mut_ptr(),
+            log.len(),
+        )
+    }
+}
+
+pub fn machhurel_reset(session: &mut [u64; 3]) -> u64 {
+    unsafe { ffi::machhurel_reset(session) }
+}
+
 pub fn machhurel_watch_new(watch: &mut [u64; 10], address: u64, length: u64) -> u64 {
     unsafe { ffi::machhurel_watch_new(watch, address, length) }
 }

@@ -1,5 +1,5 @@
 //! Worked records through every call. A row says what a call answers: all bits of the number, and all bytes of a buffer or words of
-//! a watch, those that stay too. The expected values were worked out by hand.
+//! a watch or a session, those that stay too. The expected values were worked out by hand.
 mod calls;
 mod differences;
 mod digests;
@@ -9,5 +9,6 @@ mod levels;
 mod listings;
 mod rows;
 mod samples;
+mod sessions;
 mod visits;
 mod watches;
