@@ -1,5 +1,5 @@
 -- The number of the record that the judge names has room in an answer. Assumes nothing.
-use Prim.Native.Nat.{ℕ, _/_, _≤_, _<_}
+use Prim.Native.Nat.{ℕ, _/_, _<_}
 use native.Mathlib.Omega.{arith}
 use mathlib.Core.Path.{_≡_, refl}
 use mathlib.Core.List.{List}
@@ -10,7 +10,6 @@ use borrow.Author.Tests.{eqb-true}
 use Rattle.records.specs.Lists.{mostRecords, listRefusal, recordsIn}
 use Rattle.records.proofs.Cuts.{cut-length, listed}
 use Rattle.fetching.specs.Judging.{judge, judgeCall}
-use Rattle.fetching.specs.declared.Judgement.{Judgement}
 use Rattle.fetching.specs.declared.Judgement.the-variants.{Refused, Lacking}
 use Rattle.fetching.proofs.Named.{judge-names}
 

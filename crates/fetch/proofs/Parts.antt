@@ -1,6 +1,6 @@
 -- The needs of a record are those of its implicit list and of its operands. Assumes nothing.
 use Prim.Native.Nat.{ℕ, _+_, _≤_, _<_}
-use mathlib.Core.Path.{_≡_, refl, sym, ap, ap₂, _∙_}
+use mathlib.Core.Path.{_≡_, refl, ap, ap₂, _∙_}
 use mathlib.Core.List.{List, [], _∷_, _++_, map, append-nil}
 use mathlib.Core.Bool.{Bool, true, false, not, cond, _&&_}
 use lib.ListN.{length, drop, drop-of-length-le}
@@ -14,7 +14,6 @@ use Rattle.digest.specs.Digests.{flagsAccess}
 use Rattle.implicit.specs.Lists.{implicitOf}
 use Rattle.implicit.specs.declared.Way.{Way}
 use Rattle.implicit.specs.declared.Way.the-variants.{Read, Write}
-use Rattle.implicit.specs.declared.ImplicitOperand.{ImplicitOperand}
 use Rattle.implicit.specs.declared.ImplicitOperand.the-variants as implied
 use Rattle.implicit.specs.declared.Entry.{Entry}
 use Rattle.implicit.specs.declared.Entry.the-variants as entries

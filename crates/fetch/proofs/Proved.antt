@@ -1,5 +1,5 @@
 -- Every statement of specs/Promises.antt, proved: each part stands at bits of its own. Assumes nothing.
-use Prim.Native.Nat.{ℕ, _<_}
+use Prim.Native.Nat.{_<_}
 use native.Mathlib.Omega.{arith}
 use Rattle.fetching.specs.declared.Judgement.{Judgement}
 use Rattle.fetching.specs.declared.Judgement.the-variants.{Accepted, NoSuchBit, Lacking, Refused}

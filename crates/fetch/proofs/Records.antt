@@ -2,14 +2,14 @@
 use Prim.Native.Nat.{ℕ}
 use native.Mathlib.Omega.{arith}
 use mathlib.Core.Path.{_≡_, refl, sym, ap, _∙_}
-use mathlib.Core.List.{List, [], _∷_, _++_}
+use mathlib.Core.List.{List, [], _∷_}
 use mathlib.Core.Bool.{Bool, true, false, _||_}
 use borrow.Author.Tests.{ne-eqb, eq-eqb}
 use Rattle.laws.specs.Lists.{each}
 use Rattle.laws.specs.Tests.{firstOf}
 use Rattle.sets.specs.Sets.{joined}
 use Rattle.sets.proofs.Joined.{joined-append}
-use Rattle.record.specs.Records.{recordOf, recordRefusal, recordAnswer}
+use Rattle.record.specs.Records.{recordRefusal, recordAnswer}
 use Rattle.record.specs.declared.Record.{Record}
 use Rattle.record.specs.declared.RecordAnswer.{RecordAnswer}
 use Rattle.record.proofs.Laws.{number-is, read-is}

@@ -1,8 +1,7 @@
 -- The needs of a record by its parts, as the code goes through them: no promise to a caller rests on these.
 use Prim.Native.Nat.{ℕ}
 use mathlib.Core.List.{List, [], _∷_}
-use mathlib.Core.Bool.{Bool, true, false, not, cond, _&&_}
-use lib.ListN.{getD}
+use mathlib.Core.Bool.{Bool, false, not, cond, _&&_}
 use Rattle.laws.specs.Lists.{each, flat}
 use Rattle.access.specs.Accesses.{reading, writing}
 use Rattle.implicit.specs.Lists.{implicitOf}

@@ -1,6 +1,6 @@
 -- WHAT IS PROMISED of the numbers that the judge and the proposer answer, each statement after its sentence. proofs/Proved.antt proves
 -- them all.
-use Prim.Native.Nat.{ℕ, _^_, _<_}
+use Prim.Native.Nat.{_^_, _<_}
 use mathlib.Core.Path.{_≡_}
 use Rattle.answers.specs.Promises.{bitsAt}
 use Rattle.fetching.specs.declared.Judgement.{Judgement}

@@ -2,22 +2,21 @@
 use Prim.Native.Nat.{ℕ, _+_, _^_, _≤_, _<_}
 use native.Mathlib.Omega.{arith}
 use native.Mathlib.Nat.{zero-add}
-use mathlib.Core.Path.{_≡_, refl, sym, ap, ap₂, _∙_}
+use mathlib.Core.Path.{_≡_, refl, sym, _∙_}
 use mathlib.Core.Logic.{_↔_}
 use mathlib.Core.List.{List, [], _∷_, _++_, List·Memᴰ}
 use mathlib.Core.Bool.{Bool, true, false, cond, _&&_, _||_, or-assoc}
 use lib.Dec.{ltb}
-use borrow.Author.Tests.{lt-ltb, le-ltb, ltb-true, ltb-false}
+use borrow.Author.Tests.{lt-ltb, ltb-true, ltb-false}
 use Rattle.laws.specs.Words.{bit}
 use Rattle.laws.specs.Lists.{each}
 use Rattle.laws.specs.Tests.{any, isIn}
 use Rattle.laws.proofs.Choice.{and-left, and-right}
 use Rattle.laws.proofs.Lists.{each-append}
 use Rattle.sets.proofs.Bits.{bits-are, bits-below}
-use Rattle.fetching.specs.Needs.{heldRegisters, needsOf}
+use Rattle.fetching.specs.Needs.{needsOf}
 use Rattle.fetching.specs.Judging.{setBits, allIn, accepts, lackedBy, judgeFrom, judge, proposed}
 use Rattle.fetching.specs.Promises.{Suffices, JudgeIsRight, JudgeAgrees, ProposedAccepted, ProposedLeast, BlocksUnite}
-use Rattle.fetching.specs.declared.Judgement.{Judgement}
 use Rattle.fetching.specs.declared.Judgement.the-variants.{Accepted, NoSuchBit, Lacking}
 use Rattle.fetching.proofs.Members.{both, in-true, true-in, all-mem, mem-all, all-append, mem-each, each-mem, need-low}
 

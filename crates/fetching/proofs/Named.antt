@@ -13,7 +13,7 @@ use Rattle.laws.proofs.Choice.{and-left, and-right}
 use Rattle.fetching.specs.Needs.{needsOf}
 use Rattle.fetching.specs.Judging.{setBits, allIn, firstFrom, lackedBy, judgeFrom, judge}
 use Rattle.fetching.specs.Promises.{Lacks, JudgeNames}
-use Rattle.fetching.specs.declared.Judgement.the-variants.{Accepted, NoSuchBit, Lacking}
+use Rattle.fetching.specs.declared.Judgement.the-variants.{NoSuchBit, Lacking}
 use Rattle.fetching.proofs.Members.{in-true, true-in, all-false, need-low}
 use Rattle.fetching.proofs.Judged.{accepted-not}
 

@@ -2,10 +2,9 @@
 use Prim.Native.Nat.{ℕ, _^_, _/_, _%_, _<_}
 use native.Mathlib.Omega.{arith}
 use mathlib.Core.Path.{_≡_, refl, sym, _∙_}
-use mathlib.Core.List.{List, List·Memᴰ, List·Memᴰ·not-nil, Memᴰ·cast}
-use mathlib.Core.Bool.{true, _&&_}
-use lib.ListN.{getD, replicate}
-use lib.Dec.{ltb}
+use mathlib.Core.List.{List·Memᴰ, List·Memᴰ·not-nil, Memᴰ·cast}
+use mathlib.Core.Bool.{true}
+use lib.ListN.{getD}
 use borrow.Author.Tests.{lt-ltb}
 use Rattle.laws.specs.Words.{bit}
 use Rattle.registers.specs.Files.{partOf, slotOf, after, partValue, valueOf}

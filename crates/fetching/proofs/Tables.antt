@@ -1,6 +1,5 @@
 -- Every row of the tables holds, by computing.
 use mathlib.Core.Path.{refl}
-use Rattle.access.specs.Exceptions.{withBit}
 use Rattle.sets.specs.Sets.{bitsFrom}
 use Rattle.records.specs.Lists.{listRefusal, cut, recordsIn}
 use Rattle.promises.specs.Rows.{Table}

@@ -8,7 +8,7 @@ use Rattle.registers.specs.Banks.{reg}
 use Rattle.registers.specs.Files.{fileOf}
 use Rattle.definition.specs.Visits.{logOf}
 use Rattle.definition.specs.declared.Event.the-variants.{RegisterRead, MemoryRead, UnknownRead}
-use Rattle.promises.specs.Rows.{Patch, put, long, recordWith, opcode, count, specs, regs, size, scale, mask, prefixes, behavior, access, list, fileKnowing, knows, Q, D, B, X, K, RIP, EIP, RegRRR, RegMMM, Reg4, Deref, Deref-mask, Deref-rdi, Deref-rsi, Deref-edi, Disp, MemIndexScale, MemBaseIndexScale, MemBaseIndexScaleDisp, DispU64, DispU32, Table}
+use Rattle.promises.specs.Rows.{Patch, put, long, recordWith, opcode, count, specs, regs, size, scale, mask, prefixes, behavior, access, list, fileKnowing, knows, Q, D, B, X, K, RIP, EIP, RegRRR, RegMMM, Reg4, Deref, Deref-mask, Deref-rdi, Deref-rsi, Deref-edi, Disp, MemIndexScale, MemBaseIndexScale, DispU64, DispU32, Table}
 use Rattle.fetching.specs.Needs.{refusalAlone}
 use Rattle.fetching.specs.Judging.{accepts, proposed, restricted, judgeCall, proposeCall}
 use Rattle.fetching.specs.declared.Judgement.{Judgement}

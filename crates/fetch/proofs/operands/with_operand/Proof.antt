@@ -1,5 +1,5 @@
 use borrow.Author.Needs.{needs}
-use mathlib.Core.Path.{_≡_, ap, _∙_}
+use mathlib.Core.Path.{ap, _∙_}
 use Rattle.access.specs.Accesses.{reading, writing}
 use Rattle.digest.proofs.Laws.{operand-number}
 use Rattle.definition.specs.Behaviors.{operandAt}

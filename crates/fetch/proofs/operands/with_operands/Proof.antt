@@ -1,8 +1,8 @@
 -- The invariant: joined with the needs of the operands from i on, the set is that of all. Assumes nothing.
 use borrow.Author.Needs.{needs}
 use native.Mathlib.Omega.{arith}
-use Prim.Native.Nat.{ℕ, _+_, _-_}
-use mathlib.Core.Path.{_≡_, refl, sym, _∙_}
+use Prim.Native.Nat.{_-_}
+use mathlib.Core.Path.{_≡_, refl, _∙_}
 use lib.ListN.{drop}
 use Rattle.laws.specs.Lists.{each}
 use Rattle.sets.specs.Sets.{joined}
