@@ -4,9 +4,6 @@ use crate::refusal::Refusal;
 use crate::register::Register;
 use core::fmt;
 
-/// No list has more records.
-pub const BLOCK_RECORDS: usize = 1000;
-
 /// A set has so many bits.
 pub const SET_BITS: u8 = 19;
 
@@ -66,7 +63,7 @@ pub enum Judgement {
 }
 
 /// Judges a set of registers for a list of records, `each` bytes long. Refuses 1 where `each` is no record's length or the
-/// bytes are no multiple of it, and 2 for more than [`BLOCK_RECORDS`] records. Records that a visit refuses, given a good
+/// bytes are no multiple of it, and 2 for more than [`BLOCK_RECORDS`](crate::BLOCK_RECORDS) records. Records that a visit refuses, given a good
 /// file and room, count nothing.
 ///
 /// ```

@@ -31,6 +31,7 @@
 extern crate std;
 
 mod access;
+mod block;
 mod calls;
 mod difference;
 pub mod digits;
@@ -51,14 +52,13 @@ mod spec;
 mod watch;
 
 pub use access::Access;
+pub use block::{visit_block, Answers, Block, ANSWER_BYTES, BLOCK_RECORDS};
 pub use calls::{
     digest, exceptions, listing, privilege, visit, Digest, Exceptions, PrivilegeLevel,
 };
 pub use difference::{difference, Difference};
 pub use event::{Event, Events};
-pub use fetch::{
-    fetch_judge, fetch_propose, Judgement, KnownBit, RegisterSet, BLOCK_RECORDS, SET_BITS,
-};
+pub use fetch::{fetch_judge, fetch_propose, Judgement, KnownBit, RegisterSet, SET_BITS};
 pub use file::{check_file, known, Known, RegisterFile};
 pub use item::{Broken, Class, Item, Items, KINDS};
 pub use listing::{Listed, Listing, Operand};

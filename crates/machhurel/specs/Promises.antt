@@ -8,6 +8,8 @@ use Rattle.definition.specs.Listings.{listingCall}
 use Rattle.definition.specs.Readings.{readAt}
 use Rattle.definition.specs.Visits.{visitOf}
 use Rattle.difference.specs.Partings.{partedOf}
+use Rattle.block.specs.Bits.{inBits}
+use Rattle.block.specs.Blocks.{blockCall}
 use Rattle.session.specs.Sessions.{appended}
 use Rattle.session.specs.Words.{sessionIn, inWords, emptyWords}
 use Rattle.watching.specs.Traces.{newOf, stepOf}
@@ -36,5 +38,6 @@ EveryExportDetermined =
     × OneOutcome (namingBits s (nameAt (variable address length) p s))
     × OneOutcome (inWords (appended b f (sessionIn words, p)))
     × OneOutcome emptyWords
+    × OneOutcome (inBits (blockCall length b f p s words))
     × OneOutcome (judgementBits (judgeCall b each set))
     × OneOutcome (proposalBits (proposeCall b each))
