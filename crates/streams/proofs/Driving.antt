@@ -26,14 +26,14 @@ use Rattle.streams.specs.Streams.{lengthOf, Said, unknownKind, saidAt, r
 use Rattle.streams.proofs.Cut.{cut}
 
 -- a call with room, of a reader that goes on
-pub fed-call : (f l c : List ℕ) (room : ℕ) → mostBytes ≤ room → feed (reader f l) c room ≡ outcomeOf c (fedFrom lengthOf meaning f l c)
+pub fed-call : (f l c : List ℕ) (room : ℕ) → mostBytes ≤ room → feed (reader f l) c room ≡ outcomeOf (length c) (fedFrom lengthOf meaning f l c)
 unfolding feed
 fed-call f l c room h = rw (le-ltb room mostBytes h)
 
 module _ (room : ℕ) (h : mostBytes ≤ room) where
   by-fed : (k : ℕ) (c : List ℕ) (o : Fed (List ℕ) Said)
       → ((g d : List ℕ) → driven room k (reader g []) d ≡ handed lengthOf meaning unknownKind k g [] d)
-      → onCall (outcomeOf c o) (λ t s. driven room k s (drop t c)) ≡ onFed unknownKind c o (λ g rest. handed lengthOf meaning unknownKind k g [] rest)
+      → onCall (outcomeOf (length c) o) (λ t s. driven room k s (drop t c)) ≡ onFed unknownKind c o (λ g rest. handed lengthOf meaning unknownKind k g [] rest)
   by-fed k c (waits f l) rec = refl
   by-fed k c (says a f t) rec = ap (λ (o : List Said × StreamReader). (a ∷ o .0, o .1)) (rec f (drop t c))
   by-fed k c (stops f t) rec = refl

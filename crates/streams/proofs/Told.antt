@@ -108,7 +108,7 @@ anything [] = tt
 anything (b ∷ l) = (tt, anything l)
 
 taking : (c : List ℕ) (o : Fed (List ℕ) Said) → OkFed lengthOf meaning unknownKind Finished Latest AnyByte c o
-    → Taking c (outcomeOf c o) × Sound (outcomeOf c o .next) × UnknownNext c (outcomeOf c o)
+    → Taking c (outcomeOf (length c) o) × Sound (outcomeOf (length c) o .next) × UnknownNext c (outcomeOf (length c) o)
 taking c (waits g l) k =
     (record { within = omega arith; all = λ h e. refl; some = λ h. absurd (no-true h); number = λ h. absurd (no-true h) }, record { parted = k .0; latest = k .1 }, λ e. absurd (not-zero 0 (sym e)))
 taking c (says a g n) k =
@@ -141,7 +141,7 @@ all-bytes : (l : List ℕ) → Every IsByte l → Bytes l
 all-bytes l h = every-at IsByte l 0 h (omega arith)
 
 bytes-of : (c : List ℕ) (o : Fed (List ℕ) Said) → OkFed lengthOf meaning unknownKind Finished Bytes IsByte c o
-    → Bytes (outcomeOf c o .next .kept) × Bytes (outcomeOf c o .next .file)
+    → Bytes (outcomeOf (length c) o .next .kept) × Bytes (outcomeOf (length c) o .next .file)
 bytes-of c (waits g l) k = (all-bytes l (k .2), k .1)
 bytes-of c (says a g n) k = (all-bytes [] tt, k .3)
 bytes-of c (stops g n) k = (all-bytes [] tt, k .2)

@@ -87,10 +87,11 @@ abbrev pub finishing : Said → ℕ → StreamReader → Outcome
 finishing a t r =
     record { call = record { number = a .number; finished = true; taken = t; n = length (a .log); opcode = a .opcode }; log = a .log; next = r }
 
-abbrev pub outcomeOf : List ℕ → Fed (List ℕ) Said → Outcome
-outcomeOf c (waits f l) = unfinished 0 (length c) 0 (reader f l)
-outcomeOf c (says a f t) = finishing a t (reader f [])
-outcomeOf c (stops f t) = unfinished 1 t 0 (halted f)
+-- what a chunk of so many bytes did, as a call answers it
+abbrev pub outcomeOf : ℕ → Fed (List ℕ) Said → Outcome
+outcomeOf n (waits f l) = unfinished 0 n 0 (reader f l)
+outcomeOf n (says a f t) = finishing a t (reader f [])
+outcomeOf n (stops f t) = unfinished 1 t 0 (halted f)
 
 -- a chunk is handed over, with so many bytes of room from the start on: a stopped reader's 1, the early 7, and then the chunk up to the
 -- first answer
@@ -98,7 +99,7 @@ unfoldable pub feed : StreamReader → List ℕ → ℕ → Outcome
 feed r c room =
     cond (r .stopped) (unfinished 1 0 0 r)
     (cond (ltb room mostBytes) (unfinished 7 0 mostBytes r)
-    (outcomeOf c (fedFrom lengthOf meaning (r .file) (r .kept) c)))
+    (outcomeOf (length c) (fedFrom lengthOf meaning (r .file) (r .kept) c)))
 
 unfoldable pub close : StreamReader → ℕ × StreamReader
 close r = (closingOf r, fresh)

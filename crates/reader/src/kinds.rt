@@ -1,0 +1,33 @@
+// The kinds of items: how long each is, and which are files.
+use registers::RegisterFile;
+ghost use mathlib.Core.Path.{_≡_};
+ghost use Prim.Native.Nat.{_<_};
+ghost use Rattle.registers.specs.Files.{isFile};
+ghost use Rattle.streams.specs.Streams.{lengthOf, ofFile};
+ghost use Rattle.reader.specs.Held.{itemRoom};
+
+// How long an item of a kind is; 0 for an unknown kind.
+pub fn length_of(kind: u8) -> usize
+    ensures { λ r. ⌜ (r ≡ lengthOf kind) × (r < itemRoom) ⌝ }
+{
+    match kind {
+        0x10 => 40,
+        0x20 => 141,
+        _ => 0,
+    }
+}
+
+// Whether a kind is a file's.
+pub fn of_file(kind: u8) -> bool
+    ensures { λ r. ⌜ r ≡ ofFile kind ⌝ }
+{
+    kind == 0x20
+}
+
+// Whether bytes are a good file.
+pub fn is_file(b: &[u8]) -> bool
+    ensures { λ r. ⌜ r ≡ isFile (now (b .entry)) ⌝ }
+{
+    let parsed = RegisterFile::from_bytes(b);
+    parsed.number == 0
+}
