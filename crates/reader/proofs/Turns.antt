@@ -1,5 +1,5 @@
 -- One turn of the loop over a chunk: what the bytes that it takes do. Assumes nothing.
-use Prim.Native.Nat.{ℕ, zero, suc, _+_, _-_, _≤_, _<_}
+use Prim.Native.Nat.{ℕ, zero, suc, _+_, _-_, _≤_, _<_, min}
 use native.Mathlib.Nat.{add-zero}
 use native.Mathlib.Omega.{arith}
 use borrow.Author.Tests.{ltb-true, le-ltb}
@@ -178,3 +178,12 @@ module _ (t : Taking) (item file : List ℕ) (sized : Sized t item file) (some :
       → onward (taking Record (t .kept) (t .file) (t .taken)) item file c ≡ afterItem (meaning (take (t .file) file) i) (t .taken) c
   unfolding onward meaning
   whole-record c h = rw (first-byte, h)
+
+-- the bytes that a turn takes: some, none past the chunk's end or the item's
+pub some-taken : (long kept at end n : ℕ) → n ≡ min (long - kept) (end - at) → kept < long → at < end → (0 < n) × (at + n ≤ end) × (kept + n ≤ long)
+some-taken long kept at end n e h k = (omega arith, omega arith, omega arith)
+
+-- what was brought ends the loop
+pub unknown-ends : (k f n end : ℕ) → goesOn (taking Unknown k f n) end ≡ true → ⊥
+unfolding goesOn
+unknown-ends k f n end e = no-true e
