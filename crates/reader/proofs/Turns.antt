@@ -2,20 +2,20 @@
 use Prim.Native.Nat.{ℕ, zero, suc, _+_, _-_, _≤_, _<_, min}
 use native.Mathlib.Nat.{add-zero}
 use native.Mathlib.Omega.{arith}
-use borrow.Author.Tests.{ltb-true, le-ltb}
+use borrow.Author.Tests.{ltb-true, ltb-false}
 use mathlib.Core.Path.{_≡_, refl, sym, ap, _∙_}
 use mathlib.Core.Logic.{⊎-elim, _⊎_, inl, inr}
 use mathlib.Core.List.{List, [], _∷_, _++_}
 use mathlib.Core.Bool.{Bool, true, false, cond}
-use lib.ListN.{length, getD, take, drop, length-append, length-drop, length-take}
+use lib.ListN.{length, getD, take, drop, length-append, length-drop, drop-of-length-le}
 use lib.Seq.{take-at, getD-drop, drop-drop, drop-cons, length-take-le, getD-take}
 use lib.Dec.{ltb}
 use Rattle.laws.specs.Lending.{splice}
 use Rattle.registers.specs.Files.{isFile}
-use Rattle.streams.specs.Cuts.{Saying, quiet, told, Fed, stops, fedFrom}
+use Rattle.streams.specs.Cuts.{Saying, quiet, told, Fed, waits, stops, fedFrom}
 use Rattle.streams.specs.Streams.{lengthOf, ofFile, Said, badFile, recordSays, meaning}
 use Rattle.reader.specs.Held.{itemRoom}
-use Rattle.reader.specs.Items.{ahead, doing, onward, closed, afterItem, onlyOpen, goesOn, PartIn, Sized, Ready}
+use Rattle.reader.specs.Items.{ahead, doing, onward, closed, afterItem, onlyOpen, goesOn, PartIn, Sized, Ready, Less}
 use Rattle.reader.specs.declared.items.Brought.{Brought}
 use Rattle.reader.specs.declared.items.Brought.the-variants.{Nothing, Unknown, BadFile, Record}
 use Rattle.reader.specs.declared.items.Taking.{Taking}
@@ -187,3 +187,34 @@ some-taken long kept at end n e h k = (omega arith, omega arith, omega arith)
 pub unknown-ends : (k f n end : ℕ) → goesOn (taking Unknown k f n) end ≡ true → ⊥
 unfolding goesOn
 unknown-ends k f n end e = no-true e
+
+-- the loop ends
+abbrev pub left : Taking → ℕ → ℕ
+left t end = cond (goesOn t end) (suc (end - t .taken)) 0
+
+pub fewer : (r t : Taking) (end : ℕ) → goesOn t end ≡ true → Less r t end → left r end < left t end
+fewer r t end e l = rw e (go (goesOn r end) refl)
+  where
+    go : (b : Bool) → goesOn r end ≡ b → cond b (suc (end - r .taken)) 0 < suc (end - t .taken)
+    go true h = omega (arith, l .more h, l .within)
+    go false h = omega arith
+
+-- and then the chunk is taken, or something was brought
+pub all-taken : (t : Taking) (item file c : List ℕ) → goesOn t (length c) ≡ false → t .taken ≤ length c → closed t item file ≡ onward t item file c
+unfolding closed onward goesOn fedFrom
+all-taken t item file c h w = go (t .brought) refl
+  where
+    F : List ℕ
+    F = take (t .file) file
+
+    L : List ℕ
+    L = take (t .kept) item
+
+    go : (b : Brought) → t .brought ≡ b
+        → doing b (t .taken) F L (waits F L) ≡ doing b (t .taken) F L (ahead (t .taken) (fedFrom lengthOf meaning F L (drop (t .taken) c)))
+    go Nothing e =
+        let z : ltb (t .taken) (length c) ≡ false = rw e at h in
+        ap (λ (x : List ℕ). ahead (t .taken) (fedFrom lengthOf meaning F L x)) (sym (drop-of-length-le c (ltb-false (t .taken) (length c) z)))
+    go Unknown e = refl
+    go BadFile e = refl
+    go Record e = refl

@@ -75,3 +75,8 @@ pub record Ready (t : Taking) (item file : List ℕ) : Type 0 where
 pub record Less (r t : Taking) (end : ℕ) : Type 0 where
   pub within : r .taken ≤ end
   pub more : (goesOn r end ≡ true) → t .taken < r .taken
+
+-- the chunk is taken, or something was brought
+pub record Through (t : Taking) (end : ℕ) : Type 0 where
+  pub within : t .taken ≤ end
+  pub over : goesOn t end ≡ false

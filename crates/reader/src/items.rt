@@ -10,7 +10,7 @@ ghost use lib.ListN.{length, getD, take};
 ghost use Rattle.laws.specs.Lending.{splice};
 ghost use Rattle.streams.specs.Streams.{meaning};
 ghost use Rattle.reader.specs.Held.{itemRoom};
-ghost use Rattle.reader.specs.Items.{Sized, Ready, Less, onward, closed, afterItem, goesOn};
+ghost use Rattle.reader.specs.Items.{Sized, Ready, Less, Through, onward, closed, afterItem, goesOn};
 
 // What a chunk brought so far: nothing that is answered; the byte of an unknown kind, which is next; or a bad file or a record, which
 // stands whole where items are kept.
@@ -135,4 +135,18 @@ fn goes_on(t: Taking, end: usize) -> bool
         Brought::BadFile => false,
         Brought::Record => false,
     }
+}
+
+// A chunk, up to the first item that is answered.
+pub fn take_items(t: Taking, item: &mut [u8], file: &mut [u8], chunk: &[u8]) -> Taking
+    requires { ⌜ Ready t (now item) (now file) × (t .taken ≤ length (now chunk)) ⌝ }
+    ensures { λ r. ⌜ (closed r (now (item .exit)) (now (file .exit))
+            ≡ onward t (now (item .entry)) (now (file .entry)) (now (chunk .entry)))
+        × Ready r (now (item .exit)) (now (file .exit)) × Through r (length (now (chunk .entry))) ⌝ }
+{
+    let mut u = t;
+    while goes_on(u, chunk.len()) {
+        u = take_item(u, item, file, chunk);
+    }
+    u
 }

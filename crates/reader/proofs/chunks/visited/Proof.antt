@@ -1,0 +1,71 @@
+use borrow.Author.Needs.{needs}
+use Rattle.reader.proofs.chunks.visited.Statement.{statement}
+use Rattle.reader.proofs.chunks.visited.Tie as tie
+use Rattle.reader.proofs.chunks.visited.Reads as reads
+use Rattle.reader.proofs.chunks.visited.Lts as lts
+use Rattle.reader.proofs.chunks.finished.Reads as finished-reads
+
+-- src/chunks.rt:133:22
+enum-known-a : tie.Need-enum-known-a
+enum-known-a c = search needs
+
+-- src/chunks.rt:133:28
+finished-requires : tie.Need-finished-requires
+finished-requires c κs = search needs
+
+-- src/chunks.rt:134:25
+enum-known-a-2 : tie.Need-enum-known-a-2
+enum-known-a-2 c = search needs
+
+-- src/chunks.rt:134:36
+finished-requires-2 : tie.Need-finished-requires-2
+finished-requires-2 c κs = search needs
+
+-- src/chunks.rt:135:25
+enum-known-a-3 : tie.Need-enum-known-a-3
+enum-known-a-3 c = search needs
+
+-- src/chunks.rt:135:36
+finished-requires-3 : tie.Need-finished-requires-3
+finished-requires-3 c κs = search needs
+
+-- src/chunks.rt:136:23
+enum-known-a-4 : tie.Need-enum-known-a-4
+enum-known-a-4 c = search needs
+
+-- src/chunks.rt:136:29
+finished-requires-4 : tie.Need-finished-requires-4
+finished-requires-4 c κs = search needs
+
+-- src/chunks.rt:129:1
+returns : tie.Need-returns
+returns c = ?
+
+-- src/chunks.rt:129:1
+returns-2 : tie.Need-returns-2
+returns-2 c = ?
+
+-- src/chunks.rt:129:1
+returns-3 : tie.Need-returns-3
+returns-3 c = ?
+
+-- src/chunks.rt:129:1
+returns-4 : tie.Need-returns-4
+returns-4 c = ?
+
+pub visited-spec : {M : Type 1} → statement M
+visited-spec =
+    tie.close
+    (tie.spec
+    enum-known-a
+    finished-requires
+    enum-known-a-2
+    finished-requires-2
+    enum-known-a-3
+    finished-requires-3
+    enum-known-a-4
+    finished-requires-4
+    returns
+    returns-2
+    returns-3
+    returns-4)
