@@ -2,3 +2,4 @@ pub mod Places
 pub mod Parts
 pub mod Turns
 pub mod Sound
+pub mod Replies

@@ -176,3 +176,47 @@ fn answer(t: Taking, item: &[u8], file: &[u8], log: &mut [u8], start: usize) -> 
         Brought::Record => visit_item(t, item, file, log, start),
     }
 }
+
+// A chunk is handed over, with a log buffer from a start on. The call ends with the first record or bad file that finishes, with an
+// unknown kind, or when the chunk is taken.
+pub fn read_chunk(
+    r: Reader,
+    item: &mut [u8],
+    file: &mut [u8],
+    chunk: &[u8],
+    log: &mut [u8],
+    start: usize,
+) -> Reply
+    ensures { λ a. ⌜ (leftBy a (now (item .exit)) (now (file .exit)) (now (log .exit))
+            ≡ handedTo (readerIn r (now (item .entry)) (now (file .entry))) (now (chunk .entry)) (now (log .entry)) start) × Fits a ⌝ }
+{
+    let s = sound(r, item, file);
+    if s.stopped {
+        return unfinished(1, 0, 0, s);
+    }
+    if laws::lacks_room(MOST_BYTES, start, log.len()) {
+        return unfinished(7, 0, MOST_BYTES, s);
+    }
+    let t = Taking {
+        brought: Brought::Nothing,
+        kept: s.kept,
+        file: s.file,
+        taken: 0,
+    };
+    let u = take_items(t, item, file, chunk);
+    answer(u, item, file, log, start)
+}
+
+// What closing answers: 1 of a stopped reader, 8 inside an item, else 0.
+pub fn close_reader(r: Reader, item: &[u8], file: &[u8]) -> u8
+    ensures { λ k. ⌜ k ≡ closingOf (readerIn r (now (item .entry)) (now (file .entry))) ⌝ }
+{
+    let s = sound(r, item, file);
+    if s.stopped {
+        return 1;
+    }
+    if s.kept == 0 {
+        return 0;
+    }
+    8
+}

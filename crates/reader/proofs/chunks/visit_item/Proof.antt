@@ -1,3 +1,10 @@
+use Rattle.reader.proofs.Replies.{visit-replies, count-small}
+use Rattle.reader.specs.declared.chunks.Reply.{Reply}
+use Rattle.reader.specs.Held.{leftBy}
+use lib.Seq.{length-take-le}
+use lib.ListN.{take}
+use mathlib.Core.Path.{sym, ap, _∙_}
+use native.Mathlib.Omega.{arith}
 use borrow.Author.Needs.{needs}
 use Rattle.reader.proofs.chunks.visit_item.Statement.{statement}
 use Rattle.reader.proofs.chunks.visit_item.Tie as tie
@@ -6,29 +13,28 @@ use Rattle.reader.proofs.chunks.visit_item.Lts as lts
 use Rattle.reader.proofs.chunks.visited.Reads as visited-reads
 use Rattle.visiting.proofs.visit_accesses.Reads as visit-accesses-reads
 
--- src/chunks.rt:148:38
 slice-aggregate-visit-accesses : tie.Need-slice-aggregate-visit-accesses
-slice-aggregate-visit-accesses c = ?
+slice-aggregate-visit-accesses c = let s = c .before .before .before .before in let z = s .pre .0 in sym (length-take-le (s .args .t .kept) (s .args .item .now) (omega (arith, z .kept, z .place)))
 
--- src/chunks.rt:148:53
 slice-aggregate-visit-accesses-2 : tie.Need-slice-aggregate-visit-accesses-2
-slice-aggregate-visit-accesses-2 c = ?
+slice-aggregate-visit-accesses-2 c = let s = c .before .before .before .before .before in let z = s .pre .0 in sym (length-take-le (s .args .t .file) (s .args .file .now) (omega (arith, z .held, z .beside)))
 
--- src/chunks.rt:148:13
 visit-accesses-requires : tie.Need-visit-accesses-requires
 visit-accesses-requires c κs = search needs
 
--- src/chunks.rt:148:5
 visited-requires : tie.Need-visited-requires
 visited-requires c κs = search needs
 
--- src/chunks.rt:141:1
 same-length : tie.Need-same-length
 same-length c = search needs
 
--- src/chunks.rt:141:1
 returns : tie.Need-returns
-returns c = ?
+returns c = let s = c .before .before .before .before .before .before .before .before .before .before in let z = s .pre .0 in
+    let f = take (s .args .t .file) (s .args .file .now) in
+    let b = take (s .args .t .kept) (s .args .item .now) in
+    (ap (λ (a : Reply). leftBy a (s .args .item .now) (s .args .file .now) (c .before .before .before .visit-accesses .last .1 .1 .0)) (c .visited .ensures)
+    ∙ visit-replies f b (s .args .log .now) (s .args .start) (c .before .before .before .visit-accesses .ensures) (s .args .t .taken) (s .pre .1),
+    rw (c .visited .ensures) (record { kept = omega arith; held = z .held; count = count-small f b (s .args .log .now) (s .args .start) (c .before .before .before .visit-accesses .ensures) }))
 
 pub visit-item-spec : {M : Type 1} → statement M
 visit-item-spec =

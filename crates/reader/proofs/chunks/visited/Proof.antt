@@ -5,53 +5,41 @@ use Rattle.reader.proofs.chunks.visited.Reads as reads
 use Rattle.reader.proofs.chunks.visited.Lts as lts
 use Rattle.reader.proofs.chunks.finished.Reads as finished-reads
 
--- src/chunks.rt:133:22
 enum-known-a : tie.Need-enum-known-a
 enum-known-a c = search needs
 
--- src/chunks.rt:133:28
 finished-requires : tie.Need-finished-requires
 finished-requires c κs = search needs
 
--- src/chunks.rt:134:25
 enum-known-a-2 : tie.Need-enum-known-a-2
 enum-known-a-2 c = search needs
 
--- src/chunks.rt:134:36
 finished-requires-2 : tie.Need-finished-requires-2
 finished-requires-2 c κs = search needs
 
--- src/chunks.rt:135:25
 enum-known-a-3 : tie.Need-enum-known-a-3
 enum-known-a-3 c = search needs
 
--- src/chunks.rt:135:36
 finished-requires-3 : tie.Need-finished-requires-3
 finished-requires-3 c κs = search needs
 
--- src/chunks.rt:136:23
 enum-known-a-4 : tie.Need-enum-known-a-4
 enum-known-a-4 c = search needs
 
--- src/chunks.rt:136:29
 finished-requires-4 : tie.Need-finished-requires-4
 finished-requires-4 c κs = search needs
 
--- src/chunks.rt:129:1
 returns : tie.Need-returns
-returns c = ?
+returns c = rw (c .before .before .a .given .1) (c .finished .ensures)
 
--- src/chunks.rt:129:1
 returns-2 : tie.Need-returns-2
-returns-2 c = ?
+returns-2 c = rw (c .before .before .a2 .given .1) (c .finished2 .ensures)
 
--- src/chunks.rt:129:1
 returns-3 : tie.Need-returns-3
-returns-3 c = ?
+returns-3 c = rw (c .before .before .a3 .given .1) (c .finished3 .ensures)
 
--- src/chunks.rt:129:1
 returns-4 : tie.Need-returns-4
-returns-4 c = ?
+returns-4 c = rw (c .before .before .a4 .given .1) (c .finished4 .ensures)
 
 pub visited-spec : {M : Type 1} → statement M
 visited-spec =
