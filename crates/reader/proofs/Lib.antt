@@ -3,3 +3,4 @@ pub mod Parts
 pub mod Turns
 pub mod Sound
 pub mod Replies
+pub mod Calls

@@ -1,8 +1,8 @@
 // The calls of a reader: a chunk is handed over, and the reader is closed. Whoever calls keeps the reader: its numbers by value, and two
 // places of ITEM_ROOM bytes each, for the unfinished item and for the latest good file. Any numbers and bytes get an answer.
-use crate::items::take_items;
 use crate::items::Brought;
 use crate::items::Taking;
+use crate::items::take_items;
 use crate::kinds::is_file;
 use crate::kinds::length_of;
 use definition::Answer;
@@ -141,18 +141,22 @@ fn visited(a: Answer, taken: usize, held: usize) -> Reply
 fn visit_item(t: Taking, item: &[u8], file: &[u8], log: &mut [u8], start: usize) -> Reply
     requires { ⌜ Sized t (now item) (now file) × (start + mostBytes ≤ length (now log)) ⌝ }
     ensures { λ a. ⌜ (leftBy a (now (item .entry)) (now (file .entry)) (now (log .exit))
-            ≡ handing (recordOutcome t (now (item .entry)) (now (file .entry))) (now (log .entry)) start) × Fits a ⌝ }
+        ≡ handing (recordOutcome t (now (item .entry)) (now (file .entry))) (now (log .entry)) start) × Fits a ⌝ }
 {
     let kept = t.kept;
     let held = t.file;
-    visited(visiting::visit_accesses(&item[..kept], &file[..held], log, start), t.taken, held)
+    visited(
+        visiting::visit_accesses(&item[..kept], &file[..held], log, start),
+        t.taken,
+        held,
+    )
 }
 
 // What a chunk brought, answered.
 fn answer(t: Taking, item: &[u8], file: &[u8], log: &mut [u8], start: usize) -> Reply
     requires { ⌜ Sized t (now item) (now file) × (start + mostBytes ≤ length (now log)) ⌝ }
     ensures { λ a. ⌜ (leftBy a (now (item .entry)) (now (file .entry)) (now (log .exit))
-            ≡ handing (outcomeOf (t .taken) (closed t (now (item .entry)) (now (file .entry)))) (now (log .entry)) start) × Fits a ⌝ }
+        ≡ handing (outcomeOf (t .taken) (closed t (now (item .entry)) (now (file .entry)))) (now (log .entry)) start) × Fits a ⌝ }
 {
     let brought = t.brought;
     match brought {
@@ -188,7 +192,7 @@ pub fn read_chunk(
     start: usize,
 ) -> Reply
     ensures { λ a. ⌜ (leftBy a (now (item .exit)) (now (file .exit)) (now (log .exit))
-            ≡ handedTo (readerIn r (now (item .entry)) (now (file .entry))) (now (chunk .entry)) (now (log .entry)) start) × Fits a ⌝ }
+        ≡ handedTo (readerIn r (now (item .entry)) (now (file .entry))) (now (chunk .entry)) (now (log .entry)) start) × Fits a ⌝ }
 {
     let s = sound(r, item, file);
     if s.stopped {

@@ -62,7 +62,7 @@ fn kind_of(item: &[u8], kept: usize, next: u8) -> u8
 fn settle(t: Taking, item: &[u8], file: &mut [u8]) -> Taking
     requires { ⌜ Sized t (now item) (now file) × (0 < t .kept) ⌝ }
     ensures { λ r. ⌜ ((c : List ℕ) → onward r (now (item .entry)) (now (file .exit)) c
-            ≡ afterItem (meaning (take (t .file) (now (file .entry))) (take (t .kept) (now (item .entry)))) (t .taken) c)
+        ≡ afterItem (meaning (take (t .file) (now (file .entry))) (take (t .kept) (now (item .entry)))) (t .taken) c)
         × (r .taken ≡ t .taken) × Ready r (now (item .entry)) (now (file .exit)) ⌝ }
 {
     let kept = t.kept;
@@ -95,7 +95,7 @@ fn settle(t: Taking, item: &[u8], file: &mut [u8]) -> Taking
 fn take_item(t: Taking, item: &mut [u8], file: &mut [u8], chunk: &[u8]) -> Taking
     requires { ⌜ Ready t (now item) (now file) × (goesOn t (length (now chunk)) ≡ true) ⌝ }
     ensures { λ r. ⌜ (onward r (now (item .exit)) (now (file .exit)) (now (chunk .entry))
-            ≡ onward t (now (item .entry)) (now (file .entry)) (now (chunk .entry)))
+        ≡ onward t (now (item .entry)) (now (file .entry)) (now (chunk .entry)))
         × Ready r (now (item .exit)) (now (file .exit)) × Less r t (length (now (chunk .entry))) ⌝ }
 {
     let kept = t.kept;
@@ -141,7 +141,7 @@ fn goes_on(t: Taking, end: usize) -> bool
 pub fn take_items(t: Taking, item: &mut [u8], file: &mut [u8], chunk: &[u8]) -> Taking
     requires { ⌜ Ready t (now item) (now file) × (t .taken ≤ length (now chunk)) ⌝ }
     ensures { λ r. ⌜ (closed r (now (item .exit)) (now (file .exit))
-            ≡ onward t (now (item .entry)) (now (file .entry)) (now (chunk .entry)))
+        ≡ onward t (now (item .entry)) (now (file .entry)) (now (chunk .entry)))
         × Ready r (now (item .exit)) (now (file .exit)) × Through r (length (now (chunk .entry))) ⌝ }
 {
     let mut u = t;

@@ -1,3 +1,8 @@
+use Rattle.reader.proofs.Calls.{closes-stopped, closes-between, closes-inside}
+use Rattle.reader.specs.Held.{readerWith}
+use Rattle.streams.specs.Streams.{StreamReader}
+use Rattle.streams.specs.Cuts.{closingOf}
+use mathlib.Core.Path.{ap, _∙_}
 use borrow.Author.Needs.{needs}
 use Rattle.reader.proofs.chunks.close_reader.Statement.{statement}
 use Rattle.reader.proofs.chunks.close_reader.Tie as tie
@@ -5,21 +10,17 @@ use Rattle.reader.proofs.chunks.close_reader.Reads as reads
 use Rattle.reader.proofs.chunks.close_reader.Lts as lts
 use Rattle.reader.proofs.chunks.sound.Reads as sound-reads
 
--- src/chunks.rt:214:9
 sound-requires : tie.Need-sound-requires
 sound-requires c κs = search needs
 
--- src/chunks.rt:216:9
 returns : tie.Need-returns
-returns c = ?
+returns c = let s = c .before .before .before .before in closes-stopped (readerWith (c .before .sound .result) (s .args .item .now) (s .args .file .now)) (c .if1 .taken) ∙ ap (λ (x : StreamReader). closingOf x) (c .before .sound .ensures .0)
 
--- src/chunks.rt:219:9
 returns-2 : tie.Need-returns-2
-returns-2 c = ?
+returns-2 c = let s = c .before .before .before .before .before .before in closes-between (c .before .before .before .sound .result) (s .args .item .now) (s .args .file .now) (c .before .before .before .sound .ensures .1) (c .before .before .if1 .left) (c .if2 .taken) ∙ ap (λ (x : StreamReader). closingOf x) (c .before .before .before .sound .ensures .0)
 
--- src/chunks.rt:211:1
 returns-3 : tie.Need-returns-3
-returns-3 c = ?
+returns-3 c = let s = c .before .before .before .before .before .before in closes-inside (c .before .before .before .sound .result) (s .args .item .now) (s .args .file .now) (c .before .before .before .sound .ensures .1) (c .before .before .if1 .left) (c .if2 .left) ∙ ap (λ (x : StreamReader). closingOf x) (c .before .before .before .sound .ensures .0)
 
 pub close-reader-spec : {M : Type 1} → statement M
 close-reader-spec = tie.close (tie.spec sound-requires returns returns-2 returns-3)

@@ -1,3 +1,9 @@
+use Rattle.reader.proofs.Calls.{stopped-reply, early-reply, chunk-reply, ready, begins, has-room}
+use Rattle.reader.specs.Held.{readerWith, handedTo}
+use Rattle.streams.specs.Streams.{StreamReader}
+use lib.ListN.{length}
+use mathlib.Core.Path.{sym, ap, _∙_}
+use native.Mathlib.Omega.{arith}
 use borrow.Author.Needs.{needs}
 use Rattle.reader.proofs.chunks.read_chunk.Statement.{statement}
 use Rattle.reader.proofs.chunks.read_chunk.Tie as tie
@@ -9,69 +15,69 @@ use Rattle.reader.proofs.chunks.sound.Reads as sound-reads
 use Rattle.reader.proofs.chunks.unfinished.Reads as unfinished-reads
 use Rattle.reader.proofs.items.take_items.Reads as take-items-reads
 
--- src/chunks.rt:193:9
 sound-requires : tie.Need-sound-requires
 sound-requires c κs = search needs
 
--- src/chunks.rt:195:9
 unfinished-requires : tie.Need-unfinished-requires
 unfinished-requires c κs = search needs
 
--- src/chunks.rt:195:9
 same-length : tie.Need-same-length
 same-length c = search needs
 
--- src/chunks.rt:195:9
 same-length-2 : tie.Need-same-length-2
 same-length-2 c = search needs
 
--- src/chunks.rt:195:9
 returns : tie.Need-returns
-returns c = ?
+returns c = let s = c .before .before .before .before .before .before .before .before .before in let e = c .before .before .sound .ensures in let k = e .1 in (
+  rw (c .unfinished .ensures) (stopped-reply (readerWith (c .before .before .sound .result) (s .args .item .now) (s .args .file .now)) (s .args .chunk .now) (s .args .log .now) (s .args .start) (c .before .if1 .taken)
+      ∙ ap (λ (x : StreamReader). handedTo x (s .args .chunk .now) (s .args .log .now) (s .args .start)) (e .0)),
+  rw (c .unfinished .ensures) (record { kept = k .inside; held = k .held; count = omega arith }),
+)
 
--- src/chunks.rt:197:8
 lacks-room-requires : tie.Need-lacks-room-requires
 lacks-room-requires c κs = search needs
 
--- src/chunks.rt:198:9
 unfinished-requires-2 : tie.Need-unfinished-requires-2
 unfinished-requires-2 c κs = search needs
 
--- src/chunks.rt:198:9
 same-length-3 : tie.Need-same-length-3
 same-length-3 c = search needs
 
--- src/chunks.rt:198:9
 same-length-4 : tie.Need-same-length-4
 same-length-4 c = search needs
 
--- src/chunks.rt:198:9
 returns-2 : tie.Need-returns-2
-returns-2 c = ?
+returns-2 c = let s = c .before .before .before .before .before .before .before .before .before .before .before in let e = c .before .before .before .before .sound .ensures in let k = e .1 in (
+  rw (c .unfinished2 .ensures) (early-reply (readerWith (c .before .before .before .before .sound .result) (s .args .item .now) (s .args .file .now)) (s .args .chunk .now) (s .args .log .now) (s .args .start) (c .before .before .before .if1 .left) (sym (c .before .before .lacks-room .ensures) ∙ c .before .if2 .taken)
+      ∙ ap (λ (x : StreamReader). handedTo x (s .args .chunk .now) (s .args .log .now) (s .args .start)) (e .0)),
+  rw (c .unfinished2 .ensures) (record { kept = k .inside; held = k .held; count = omega arith }),
+)
 
--- src/chunks.rt:206:9
 take-items-requires : tie.Need-take-items-requires
-take-items-requires c κs = ?
+take-items-requires c κs = let s = c .before .before .before .before .before .before .before .before .before .before .before .before in (ready (c .before .before .before .before .before .sound .result) (s .args .item .now) (s .args .file .now) (c .before .before .before .before .before .sound .ensures .1) (c .before .before .before .before .if1 .left), omega arith)
 
--- src/chunks.rt:207:5
 answer-requires : tie.Need-answer-requires
-answer-requires c κs = ?
+answer-requires c κs = let s = c .before .before .before .before .before .before .before .before .before .before .before .before .before .before .before .before .before .before .before .before in (c .before .before .before .before .before .before .before .take-items .ensures .1 .sized, has-room (s .args .start) (length (s .args .log .now)) (sym (c .before .before .before .before .before .before .before .before .before .before .before .lacks-room .ensures) ∙ c .before .before .before .before .before .before .before .before .before .before .if2 .left))
 
--- src/chunks.rt:182:1
 same-length-5 : tie.Need-same-length-5
 same-length-5 c = search needs
 
--- src/chunks.rt:182:1
 same-length-6 : tie.Need-same-length-6
 same-length-6 c = search needs
 
--- src/chunks.rt:182:1
 same-length-7 : tie.Need-same-length-7
 same-length-7 c = search needs
 
--- src/chunks.rt:182:1
 returns-3 : tie.Need-returns-3
-returns-3 c = ?
+returns-3 c = let s = c .before .before .before .before .before .before .before .before .before .before .before .before .before .before .before .before .before .before .before .before .before .before .before in let e = c .before .before .before .before .before .before .before .before .before .before .before .before .before .before .before .before .sound .ensures in let x = c .before .before .before .before .before .before .before .before .before .before .before .before .before .before .before .before .sound .result in
+    let goes = c .before .before .before .before .before .before .before .before .before .before .before .before .before .before .before .if1 .left in
+    let room = sym (c .before .before .before .before .before .before .before .before .before .before .before .before .before .before .lacks-room .ensures) ∙ c .before .before .before .before .before .before .before .before .before .before .before .before .before .if2 .left in
+    let brought = c .before .before .before .before .before .before .before .before .before .before .take-items .ensures .0 ∙ begins x (s .args .item .now) (s .args .file .now) (e .1) goes (s .args .chunk .now) in (
+      c .before .before .answer .ensures .0
+          ∙ chunk-reply (readerWith x (s .args .item .now) (s .args .file .now)) (s .args .chunk .now) (s .args .log .now) (s .args .start) (c .before .before .before .before .before .before .before .before .before .before .take-items .result) (c .before .before .before .before .before .before .before .before .before .before .take-items .last .1 .0) (c .before .before .before .before .before .before .before .before .before .before .take-items .last .1 .1 .0) goes room (c .before .before .before .before .before .before .before .before .before .before .take-items .ensures .2) brought
+          ∙ ap (λ (x : StreamReader). handedTo x (s .args .chunk .now) (s .args .log .now) (s .args .start)) (e .0),
+      c .before .before .answer .ensures .1,
+    )
 
 pub read-chunk-spec : {M : Type 1} → statement M
 read-chunk-spec =

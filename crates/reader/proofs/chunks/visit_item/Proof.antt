@@ -31,10 +31,11 @@ same-length c = search needs
 returns : tie.Need-returns
 returns c = let s = c .before .before .before .before .before .before .before .before .before .before in let z = s .pre .0 in
     let f = take (s .args .t .file) (s .args .file .now) in
-    let b = take (s .args .t .kept) (s .args .item .now) in
-    (ap (λ (a : Reply). leftBy a (s .args .item .now) (s .args .file .now) (c .before .before .before .visit-accesses .last .1 .1 .0)) (c .visited .ensures)
-    ∙ visit-replies f b (s .args .log .now) (s .args .start) (c .before .before .before .visit-accesses .ensures) (s .args .t .taken) (s .pre .1),
-    rw (c .visited .ensures) (record { kept = omega arith; held = z .held; count = count-small f b (s .args .log .now) (s .args .start) (c .before .before .before .visit-accesses .ensures) }))
+    let b = take (s .args .t .kept) (s .args .item .now) in (
+      ap (λ (a : Reply). leftBy a (s .args .item .now) (s .args .file .now) (c .before .before .before .visit-accesses .last .1 .1 .0)) (c .visited .ensures)
+          ∙ visit-replies f b (s .args .log .now) (s .args .start) (c .before .before .before .visit-accesses .ensures) (s .args .t .taken) (s .pre .1),
+      rw (c .visited .ensures) (record { kept = omega arith; held = z .held; count = count-small f b (s .args .log .now) (s .args .start) (c .before .before .before .visit-accesses .ensures) }),
+    )
 
 pub visit-item-spec : {M : Type 1} → statement M
 visit-item-spec =

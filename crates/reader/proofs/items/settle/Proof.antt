@@ -39,23 +39,26 @@ same-length : tie.Need-same-length
 same-length c = search needs
 
 returns : tie.Need-returns
-returns c = let s = c .before .before .before .before .before .before .before .before .before .before .before .before .before in let z = s .pre .0 in
-    (λ x. ap (λ (p : List ℕ). onward (taking Nothing 0 (s .args .t .kept) (s .args .t .taken)) (s .args .item .now) p x) (c .before .before .fill .ensures)
-    ∙ good-file (s .args .t) (s .args .item .now) (s .args .file .now) z (s .pre .1) x (sym (c .before .before .before .before .before .before .before .before .before .of-file .ensures) ∙ c .before .before .before .before .before .before .before .before .if1 .taken) (sym (c .before .before .before .before .before .before .is-file .ensures) ∙ c .before .before .before .before .before .if2 .taken),
-    refl,
-    record { sized = record { place = z .place; beside = c .before .file .given ∙ z .beside; kept = omega arith; held = z .kept }; part = inl refl })
+returns c = let s = c .before .before .before .before .before .before .before .before .before .before .before .before .before in let z = s .pre .0 in (
+  λ x. ap (λ (p : List ℕ). onward (taking Nothing 0 (s .args .t .kept) (s .args .t .taken)) (s .args .item .now) p x) (c .before .before .fill .ensures)
+      ∙ good-file (s .args .t) (s .args .item .now) (s .args .file .now) z (s .pre .1) x (sym (c .before .before .before .before .before .before .before .before .before .of-file .ensures) ∙ c .before .before .before .before .before .before .before .before .if1 .taken) (sym (c .before .before .before .before .before .before .is-file .ensures) ∙ c .before .before .before .before .before .if2 .taken),
+  refl,
+  record { sized = record { place = z .place; beside = c .before .file .given ∙ z .beside; kept = omega arith; held = z .kept }; part = inl refl },
+)
 
 returns-2 : tie.Need-returns-2
-returns-2 c = let s = c .before .before .before .before .before .before .before .before in let z = s .pre .0 in
-    (λ x. bad-file (s .args .t) (s .args .item .now) (s .args .file .now) z (s .pre .1) x (sym (c .before .before .before .before .of-file .ensures) ∙ c .before .before .before .if1 .taken) (sym (c .before .is-file .ensures) ∙ c .if2 .left),
-    refl,
-    record { sized = record { place = z .place; beside = z .beside; kept = z .kept; held = z .held }; part = tt })
+returns-2 c = let s = c .before .before .before .before .before .before .before .before in let z = s .pre .0 in (
+  λ x. bad-file (s .args .t) (s .args .item .now) (s .args .file .now) z (s .pre .1) x (sym (c .before .before .before .before .of-file .ensures) ∙ c .before .before .before .if1 .taken) (sym (c .before .is-file .ensures) ∙ c .if2 .left),
+  refl,
+  record { sized = record { place = z .place; beside = z .beside; kept = z .kept; held = z .held }; part = tt },
+)
 
 returns-3 : tie.Need-returns-3
-returns-3 c = let s = c .before .before .before .before .before in let z = s .pre .0 in
-    (λ x. whole-record (s .args .t) (s .args .item .now) (s .args .file .now) z (s .pre .1) x (sym (c .before .of-file .ensures) ∙ c .if1 .left),
-    refl,
-    record { sized = record { place = z .place; beside = z .beside; kept = z .kept; held = z .held }; part = tt })
+returns-3 c = let s = c .before .before .before .before .before in let z = s .pre .0 in (
+  λ x. whole-record (s .args .t) (s .args .item .now) (s .args .file .now) z (s .pre .1) x (sym (c .before .of-file .ensures) ∙ c .if1 .left),
+  refl,
+  record { sized = record { place = z .place; beside = z .beside; kept = z .kept; held = z .held }; part = tt },
+)
 
 pub settle-spec : {M : Type 1} → statement M
 settle-spec =

@@ -63,10 +63,11 @@ same-length : tie.Need-same-length
 same-length c = search needs
 
 returns : tie.Need-returns
-returns c = let s = c .before .before .before .before .before .before .before .before in let z = s .pre .0 .sized in
-    (unknown-here (s .args .t) (s .args .item .now) (s .args .file .now) (s .args .chunk .now) (s .pre .0) (s .pre .1) (sym (long-is (c .before)) ∙ c .if1 .taken),
-    record { sized = record { place = z .place; beside = z .beside; kept = z .kept; held = z .held }; part = tt },
-    record { within = omega (arith, going (s .args .t) (length (s .args .chunk .now)) (s .pre .1) .1); more = λ e. absurd (unknown-ends _ _ _ _ e) })
+returns c = let s = c .before .before .before .before .before .before .before .before in let z = s .pre .0 .sized in (
+  unknown-here (s .args .t) (s .args .item .now) (s .args .file .now) (s .args .chunk .now) (s .pre .0) (s .pre .1) (sym (long-is (c .before)) ∙ c .if1 .taken),
+  record { sized = record { place = z .place; beside = z .beside; kept = z .kept; held = z .held }; part = tt },
+  record { within = omega (arith, going (s .args .t) (length (s .args .chunk .now)) (s .pre .1) .1); more = λ e. absurd (unknown-ends _ _ _ _ e) },
+)
 
 sub-smaller : tie.Need-sub-smaller
 sub-smaller c = omega (arith, shorter c)
@@ -105,11 +106,12 @@ returns-2 : tie.Need-returns-2
 returns-2 c = let s = c .before .before .before .before .before .before .before .before .before .before .before .before .before .before .before in let z = s .pre .0 .sized in let h = taken (c .before .before .before .before .before .before) in let m = filled (c .before .before .before) in
     let room : s .args .t .kept + c .before .before .before .before .before .before .smaller .result ≤ itemRoom = omega (arith, h .2, c .before .before .before .before .before .before .before .before .length-of .ensures .1) in
     let less : s .args .t .kept + c .before .before .before .before .before .before .smaller .result < lengthOf (getD (take (s .args .t .kept) (s .args .item .now) ++ (getD (s .args .chunk .now) (s .args .t .taken) 0 ∷ [])) 0 0) = rw (← long-is (c .before .before .before .before .before .before .before .before)) (c .if2 .taken) in
-    let first = first-now (s .args .t) (s .args .item .now) (s .args .file .now) (s .args .chunk .now) (s .pre .0) (s .pre .1) (c .before .before .before .before .before .before .smaller .result) (h .0) (h .1) room in
-    (ap (λ (p : List ℕ). onward (taking Nothing (s .args .t .kept + c .before .before .before .before .before .before .smaller .result) (s .args .t .file) (s .args .t .taken + c .before .before .before .before .before .before .smaller .result)) p (s .args .file .now) (s .args .chunk .now)) m
-    ∙ part-taken (s .args .t) (s .args .item .now) (s .args .file .now) (s .args .chunk .now) (s .pre .0) (s .pre .1) (c .before .before .before .before .before .before .smaller .result) (h .0) (h .1) room less,
-    record { sized = record { place = c .before .before .item .given ∙ z .place; beside = z .beside; kept = room; held = z .held }; part = inr (rw (m, first) less) },
-    record { within = h .1; more = λ e. omega (arith, h .0) })
+    let first = first-now (s .args .t) (s .args .item .now) (s .args .file .now) (s .args .chunk .now) (s .pre .0) (s .pre .1) (c .before .before .before .before .before .before .smaller .result) (h .0) (h .1) room in (
+      ap (λ (p : List ℕ). onward (taking Nothing (s .args .t .kept + c .before .before .before .before .before .before .smaller .result) (s .args .t .file) (s .args .t .taken + c .before .before .before .before .before .before .smaller .result)) p (s .args .file .now) (s .args .chunk .now)) m
+          ∙ part-taken (s .args .t) (s .args .item .now) (s .args .file .now) (s .args .chunk .now) (s .pre .0) (s .pre .1) (c .before .before .before .before .before .before .smaller .result) (h .0) (h .1) room less,
+      record { sized = record { place = c .before .before .item .given ∙ z .place; beside = z .beside; kept = room; held = z .held }; part = inr (rw (m, first) less) },
+      record { within = h .1; more = λ e. omega (arith, h .0) },
+    )
 
 settle-requires : tie.Need-settle-requires
 settle-requires c κs = search needs
@@ -124,12 +126,13 @@ returns-3 : tie.Need-returns-3
 returns-3 c = let s = c .before .before .before .before .before .before .before .before .before .before .before .before .before .before .before .before .before .before .before .before in let z = s .pre .0 .sized in let h = taken (c .before .before .before .before .before .before .before .before .before .before .before) in let m = filled (c .before .before .before .before .before .before .before .before) in
     let room : s .args .t .kept + c .before .before .before .before .before .before .before .before .before .before .before .smaller .result ≤ itemRoom = omega (arith, h .2, c .before .before .before .before .before .before .before .before .before .before .before .before .before .length-of .ensures .1) in
     let all : s .args .t .kept + c .before .before .before .before .before .before .before .before .before .before .before .smaller .result ≡ lengthOf (getD (take (s .args .t .kept) (s .args .item .now) ++ (getD (s .args .chunk .now) (s .args .t .taken) 0 ∷ [])) 0 0) = rw (← long-is (c .before .before .before .before .before .before .before .before .before .before .before .before .before)) (omega (arith, h .2, c .before .before .before .before .before .if2 .left)) in
-    let end = c .before .before .settle .ensures .1 in
-    (c .before .before .settle .ensures .0 (s .args .chunk .now)
-    ∙ ap (λ (p : List ℕ). afterItem (meaning (take (s .args .t .file) (s .args .file .now)) (take (s .args .t .kept + c .before .before .before .before .before .before .before .before .before .before .before .smaller .result) p)) (s .args .t .taken + c .before .before .before .before .before .before .before .before .before .before .before .smaller .result) (s .args .chunk .now)) m
-    ∙ whole-taken (s .args .t) (s .args .item .now) (s .args .file .now) (s .args .chunk .now) (s .pre .0) (s .pre .1) (c .before .before .before .before .before .before .before .before .before .before .before .smaller .result) (h .0) (h .1) room all,
-    c .before .before .settle .ensures .2,
-    record { within = omega (arith, h .1, end); more = λ e. omega (arith, h .0, end) })
+    let end = c .before .before .settle .ensures .1 in (
+      c .before .before .settle .ensures .0 (s .args .chunk .now)
+          ∙ ap (λ (p : List ℕ). afterItem (meaning (take (s .args .t .file) (s .args .file .now)) (take (s .args .t .kept + c .before .before .before .before .before .before .before .before .before .before .before .smaller .result) p)) (s .args .t .taken + c .before .before .before .before .before .before .before .before .before .before .before .smaller .result) (s .args .chunk .now)) m
+          ∙ whole-taken (s .args .t) (s .args .item .now) (s .args .file .now) (s .args .chunk .now) (s .pre .0) (s .pre .1) (c .before .before .before .before .before .before .before .before .before .before .before .smaller .result) (h .0) (h .1) room all,
+      c .before .before .settle .ensures .2,
+      record { within = omega (arith, h .1, end); more = λ e. omega (arith, h .0, end) },
+    )
 
 pub take-item-spec : {M : Type 1} → statement M
 take-item-spec =
