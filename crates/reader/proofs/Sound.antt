@@ -11,6 +11,7 @@ use lib.Seq.{getD-take, length-take-le}
 use lib.Dec.{ltb, eqb}
 use Rattle.laws.proofs.Choice.{either, and-left, and-right}
 use Rattle.registers.specs.Files.{isFile}
+use Rattle.streams.specs.Cuts.{halted}
 use Rattle.streams.specs.Streams.{recordKind, fileKind, lengthOf}
 use Rattle.reader.specs.Chunks.{Kept}
 use Rattle.reader.specs.Items.{PartIn}
@@ -116,6 +117,14 @@ file-held file n h = go (ltb n itemRoom) refl
         let l : itemRoom ≤ n = ltb-false n itemRoom e in
         absurd (no-true (sym (too-long file n long (λ (z : n ≡ 0). omega arith) l) ∙ h))
 
+nothing-held : (item file : List ℕ) → readerIn none item file ≡ readerWith none item file
+unfolding readerIn
+nothing-held item file = go (holdsPart item 0 && holdsFile file 0)
+  where
+    go : (t : Bool) → cond t (readerWith none item file) (halted []) ≡ readerWith none item file
+    go true = refl
+    go false = refl
+
 module _ (r : Reader) (item file : List ℕ) where
   abbrev pub holds : Bool
   holds = holdsPart item (r .kept) && holdsFile file (r .file)
@@ -125,12 +134,12 @@ module _ (r : Reader) (item file : List ℕ) where
   held h =
       let p = part-held item (r .kept) (and-left _ _ h) in
       let q = file-held file (r .file) (and-right (holdsPart item (r .kept)) _ h) in
-      (rw h, record { inside = p .1; held = q .1; place = λ s. p .0; beside = λ s. q .0; part = λ s. p .2 })
+      (rw h, record { inside = p .1; held = q .1; place = λ s. p .0; beside = λ s. q .0; part = λ s. p .2; same = rw h })
 
   pub not-held : holds ≡ false → (readerWith none item file ≡ readerIn r item file) × Kept none item file
   unfolding readerIn
   not-held h =
-      (rw h, record { inside = omega arith; held = omega arith; place = λ s. absurd (no-false s); beside = λ s. absurd (no-false s); part = λ s. absurd (no-false s) })
+      (rw h, record { inside = omega arith; held = omega arith; place = λ s. absurd (no-false s); beside = λ s. absurd (no-false s); part = λ s. absurd (no-false s); same = nothing-held item file })
 
 -- two tests, the second asked only where the first holds
 pub both-true : (a b : Bool) → a ≡ true → (a && b) ≡ b

@@ -6,7 +6,7 @@ use mathlib.Core.List.{List}
 use lib.ListN.{length, take}
 use Rattle.streams.specs.Cuts.{says}
 use Rattle.streams.specs.Streams.{recordSays, Outcome, outcomeOf}
-use Rattle.reader.specs.Held.{itemRoom}
+use Rattle.reader.specs.Held.{itemRoom, readerWith, readerIn}
 use Rattle.reader.specs.Items.{PartIn}
 use Rattle.reader.specs.declared.chunks.Reader.{Reader}
 use Rattle.reader.specs.declared.chunks.Reply.{Reply}
@@ -20,6 +20,7 @@ pub record Kept (r : Reader) (item file : List ℕ) : Type 0 where
   pub place : r .stopped ≡ false → length item ≡ itemRoom
   pub beside : r .stopped ≡ false → length file ≡ itemRoom
   pub part : r .stopped ≡ false → PartIn Nothing (r .kept) item
+  pub same : readerIn r item file ≡ readerWith r item file
 
 abbrev pub replying : ℕ → Bool → ℕ → ℕ → ℕ → Reader → Reply
 replying number finished taken n opcode r =

@@ -72,7 +72,7 @@ fn is_sound(r: Reader, item: &[u8], file: &[u8]) -> bool
 }
 
 // The reader, or a stopped one where the bytes are none of a reader.
-fn sound(r: Reader, item: &[u8], file: &[u8]) -> Reader
+pub fn checked(r: Reader, item: &[u8], file: &[u8]) -> Reader
     ensures { λ s. ⌜ (readerWith s (now (item .entry)) (now (file .entry)) ≡ readerIn r (now (item .entry)) (now (file .entry)))
         × Kept s (now (item .entry)) (now (file .entry)) ⌝ }
 {
@@ -194,7 +194,7 @@ pub fn read_chunk(
     ensures { λ a. ⌜ (leftBy a (now (item .exit)) (now (file .exit)) (now (log .exit))
         ≡ handedTo (readerIn r (now (item .entry)) (now (file .entry))) (now (chunk .entry)) (now (log .entry)) start) × Fits a ⌝ }
 {
-    let s = sound(r, item, file);
+    let s = checked(r, item, file);
     if s.stopped {
         return unfinished(1, 0, 0, s);
     }
@@ -215,7 +215,7 @@ pub fn read_chunk(
 pub fn close_reader(r: Reader, item: &[u8], file: &[u8]) -> u8
     ensures { λ k. ⌜ k ≡ closingOf (readerIn r (now (item .entry)) (now (file .entry))) ⌝ }
 {
-    let s = sound(r, item, file);
+    let s = checked(r, item, file);
     if s.stopped {
         return 1;
     }

@@ -8,19 +8,19 @@ use Rattle.reader.proofs.chunks.close_reader.Statement.{statement}
 use Rattle.reader.proofs.chunks.close_reader.Tie as tie
 use Rattle.reader.proofs.chunks.close_reader.Reads as reads
 use Rattle.reader.proofs.chunks.close_reader.Lts as lts
-use Rattle.reader.proofs.chunks.sound.Reads as sound-reads
+use Rattle.reader.proofs.chunks.checked.Reads as checked-reads
 
-sound-requires : tie.Need-sound-requires
-sound-requires c κs = search needs
+checked-requires : tie.Need-checked-requires
+checked-requires c κs = search needs
 
 returns : tie.Need-returns
-returns c = let s = c .before .before .before .before in closes-stopped (readerWith (c .before .sound .result) (s .args .item .now) (s .args .file .now)) (c .if1 .taken) ∙ ap (λ (x : StreamReader). closingOf x) (c .before .sound .ensures .0)
+returns c = let s = c .before .before .before .before in closes-stopped (readerWith (c .before .checked .result) (s .args .item .now) (s .args .file .now)) (c .if1 .taken) ∙ ap (λ (x : StreamReader). closingOf x) (c .before .checked .ensures .0)
 
 returns-2 : tie.Need-returns-2
-returns-2 c = let s = c .before .before .before .before .before .before in closes-between (c .before .before .before .sound .result) (s .args .item .now) (s .args .file .now) (c .before .before .before .sound .ensures .1) (c .before .before .if1 .left) (c .if2 .taken) ∙ ap (λ (x : StreamReader). closingOf x) (c .before .before .before .sound .ensures .0)
+returns-2 c = let s = c .before .before .before .before .before .before in closes-between (c .before .before .before .checked .result) (s .args .item .now) (s .args .file .now) (c .before .before .before .checked .ensures .1) (c .before .before .if1 .left) (c .if2 .taken) ∙ ap (λ (x : StreamReader). closingOf x) (c .before .before .before .checked .ensures .0)
 
 returns-3 : tie.Need-returns-3
-returns-3 c = let s = c .before .before .before .before .before .before in closes-inside (c .before .before .before .sound .result) (s .args .item .now) (s .args .file .now) (c .before .before .before .sound .ensures .1) (c .before .before .if1 .left) (c .if2 .left) ∙ ap (λ (x : StreamReader). closingOf x) (c .before .before .before .sound .ensures .0)
+returns-3 c = let s = c .before .before .before .before .before .before in closes-inside (c .before .before .before .checked .result) (s .args .item .now) (s .args .file .now) (c .before .before .before .checked .ensures .1) (c .before .before .if1 .left) (c .if2 .left) ∙ ap (λ (x : StreamReader). closingOf x) (c .before .before .before .checked .ensures .0)
 
 pub close-reader-spec : {M : Type 1} → statement M
-close-reader-spec = tie.close (tie.spec sound-requires returns returns-2 returns-3)
+close-reader-spec = tie.close (tie.spec checked-requires returns returns-2 returns-3)

@@ -11,12 +11,12 @@ use Rattle.reader.proofs.chunks.read_chunk.Reads as reads
 use Rattle.reader.proofs.chunks.read_chunk.Lts as lts
 use Rattle.laws.proofs.lacks_room.Reads as lacks-room-reads
 use Rattle.reader.proofs.chunks.answer.Reads as answer-reads
-use Rattle.reader.proofs.chunks.sound.Reads as sound-reads
+use Rattle.reader.proofs.chunks.checked.Reads as checked-reads
 use Rattle.reader.proofs.chunks.unfinished.Reads as unfinished-reads
 use Rattle.reader.proofs.items.take_items.Reads as take-items-reads
 
-sound-requires : tie.Need-sound-requires
-sound-requires c κs = search needs
+checked-requires : tie.Need-checked-requires
+checked-requires c κs = search needs
 
 unfinished-requires : tie.Need-unfinished-requires
 unfinished-requires c κs = search needs
@@ -28,8 +28,8 @@ same-length-2 : tie.Need-same-length-2
 same-length-2 c = search needs
 
 returns : tie.Need-returns
-returns c = let s = c .before .before .before .before .before .before .before .before .before in let e = c .before .before .sound .ensures in let k = e .1 in (
-  rw (c .unfinished .ensures) (stopped-reply (readerWith (c .before .before .sound .result) (s .args .item .now) (s .args .file .now)) (s .args .chunk .now) (s .args .log .now) (s .args .start) (c .before .if1 .taken)
+returns c = let s = c .before .before .before .before .before .before .before .before .before in let e = c .before .before .checked .ensures in let k = e .1 in (
+  rw (c .unfinished .ensures) (stopped-reply (readerWith (c .before .before .checked .result) (s .args .item .now) (s .args .file .now)) (s .args .chunk .now) (s .args .log .now) (s .args .start) (c .before .if1 .taken)
       ∙ ap (λ (x : StreamReader). handedTo x (s .args .chunk .now) (s .args .log .now) (s .args .start)) (e .0)),
   rw (c .unfinished .ensures) (record { kept = k .inside; held = k .held; count = omega arith }),
 )
@@ -47,14 +47,14 @@ same-length-4 : tie.Need-same-length-4
 same-length-4 c = search needs
 
 returns-2 : tie.Need-returns-2
-returns-2 c = let s = c .before .before .before .before .before .before .before .before .before .before .before in let e = c .before .before .before .before .sound .ensures in let k = e .1 in (
-  rw (c .unfinished2 .ensures) (early-reply (readerWith (c .before .before .before .before .sound .result) (s .args .item .now) (s .args .file .now)) (s .args .chunk .now) (s .args .log .now) (s .args .start) (c .before .before .before .if1 .left) (sym (c .before .before .lacks-room .ensures) ∙ c .before .if2 .taken)
+returns-2 c = let s = c .before .before .before .before .before .before .before .before .before .before .before in let e = c .before .before .before .before .checked .ensures in let k = e .1 in (
+  rw (c .unfinished2 .ensures) (early-reply (readerWith (c .before .before .before .before .checked .result) (s .args .item .now) (s .args .file .now)) (s .args .chunk .now) (s .args .log .now) (s .args .start) (c .before .before .before .if1 .left) (sym (c .before .before .lacks-room .ensures) ∙ c .before .if2 .taken)
       ∙ ap (λ (x : StreamReader). handedTo x (s .args .chunk .now) (s .args .log .now) (s .args .start)) (e .0)),
   rw (c .unfinished2 .ensures) (record { kept = k .inside; held = k .held; count = omega arith }),
 )
 
 take-items-requires : tie.Need-take-items-requires
-take-items-requires c κs = let s = c .before .before .before .before .before .before .before .before .before .before .before .before in (ready (c .before .before .before .before .before .sound .result) (s .args .item .now) (s .args .file .now) (c .before .before .before .before .before .sound .ensures .1) (c .before .before .before .before .if1 .left), omega arith)
+take-items-requires c κs = let s = c .before .before .before .before .before .before .before .before .before .before .before .before in (ready (c .before .before .before .before .before .checked .result) (s .args .item .now) (s .args .file .now) (c .before .before .before .before .before .checked .ensures .1) (c .before .before .before .before .if1 .left), omega arith)
 
 answer-requires : tie.Need-answer-requires
 answer-requires c κs = let s = c .before .before .before .before .before .before .before .before .before .before .before .before .before .before .before .before .before .before .before .before in (c .before .before .before .before .before .before .before .take-items .ensures .1 .sized, has-room (s .args .start) (length (s .args .log .now)) (sym (c .before .before .before .before .before .before .before .before .before .before .before .lacks-room .ensures) ∙ c .before .before .before .before .before .before .before .before .before .before .if2 .left))
@@ -69,7 +69,7 @@ same-length-7 : tie.Need-same-length-7
 same-length-7 c = search needs
 
 returns-3 : tie.Need-returns-3
-returns-3 c = let s = c .before .before .before .before .before .before .before .before .before .before .before .before .before .before .before .before .before .before .before .before .before .before .before in let e = c .before .before .before .before .before .before .before .before .before .before .before .before .before .before .before .before .sound .ensures in let x = c .before .before .before .before .before .before .before .before .before .before .before .before .before .before .before .before .sound .result in
+returns-3 c = let s = c .before .before .before .before .before .before .before .before .before .before .before .before .before .before .before .before .before .before .before .before .before .before .before in let e = c .before .before .before .before .before .before .before .before .before .before .before .before .before .before .before .before .checked .ensures in let x = c .before .before .before .before .before .before .before .before .before .before .before .before .before .before .before .before .checked .result in
     let goes = c .before .before .before .before .before .before .before .before .before .before .before .before .before .before .before .if1 .left in
     let room = sym (c .before .before .before .before .before .before .before .before .before .before .before .before .before .before .lacks-room .ensures) ∙ c .before .before .before .before .before .before .before .before .before .before .before .before .before .if2 .left in
     let brought = c .before .before .before .before .before .before .before .before .before .before .take-items .ensures .0 ∙ begins x (s .args .item .now) (s .args .file .now) (e .1) goes (s .args .chunk .now) in (
@@ -83,7 +83,7 @@ pub read-chunk-spec : {M : Type 1} → statement M
 read-chunk-spec =
     tie.close
     (tie.spec
-    sound-requires
+    checked-requires
     unfinished-requires
     same-length
     same-length-2

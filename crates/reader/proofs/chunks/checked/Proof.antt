@@ -1,10 +1,10 @@
 use Rattle.reader.proofs.Sound.{held, not-held}
 use mathlib.Core.Path.{sym, _∙_}
 use borrow.Author.Needs.{needs}
-use Rattle.reader.proofs.chunks.sound.Statement.{statement}
-use Rattle.reader.proofs.chunks.sound.Tie as tie
-use Rattle.reader.proofs.chunks.sound.Reads as reads
-use Rattle.reader.proofs.chunks.sound.Lts as lts
+use Rattle.reader.proofs.chunks.checked.Statement.{statement}
+use Rattle.reader.proofs.chunks.checked.Tie as tie
+use Rattle.reader.proofs.chunks.checked.Reads as reads
+use Rattle.reader.proofs.chunks.checked.Lts as lts
 use Rattle.reader.proofs.chunks.is_sound.Reads as is-sound-reads
 
 is-sound-requires : tie.Need-is-sound-requires
@@ -16,5 +16,5 @@ returns c = let s = c .before .before .before .before in held (s .args .r) (s .a
 returns-2 : tie.Need-returns-2
 returns-2 c = let s = c .before .before .before .before in not-held (s .args .r) (s .args .item .now) (s .args .file .now) (sym (c .before .is-sound .ensures) ∙ c .if1 .left)
 
-pub sound-spec : {M : Type 1} → statement M
-sound-spec = tie.close (tie.spec is-sound-requires returns returns-2)
+pub checked-spec : {M : Type 1} → statement M
+checked-spec = tie.close (tie.spec is-sound-requires returns returns-2)

@@ -1,0 +1,1 @@
+// A reader as words.
