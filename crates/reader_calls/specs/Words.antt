@@ -1,12 +1,11 @@
 -- A reader as the 48 words that a C caller keeps: 20 words of the unfinished item's bytes and 20 of the latest good file's, lowest byte
 -- first and zero bytes behind; how many bytes each has; 1 where the reader has stopped; and words that are 0.
-use Prim.Native.Nat.{ℕ, _+_, _*_, _^_}
+use Prim.Native.Nat.{ℕ, zero, suc, _+_, _*_, _^_}
 use mathlib.Core.List.{List, [], _∷_, _++_}
-use mathlib.Core.Bool.{Bool, true, false, cond, not, _&&_}
-use lib.ListN.{length, getD, take, drop, replicate}
+use mathlib.Core.Bool.{Bool, true, cond, not, _&&_}
+use lib.ListN.{length, getD, replicate}
 use lib.Dec.{eqb}
 use Rattle.laws.specs.Words.{little}
-use Rattle.laws.specs.Lists.{each}
 use Rattle.registers.specs.Files.{numbersFrom}
 use Rattle.streams.specs.Cuts.{halted}
 use Rattle.streams.specs.Streams.{StreamReader}
@@ -14,12 +13,20 @@ use Rattle.streams.specs.declared.Call.{Call}
 use Rattle.reader.specs.Held.{readerIn}
 use Rattle.reader.specs.declared.chunks.Reader.{Reader}
 
+abbrev pub readerWords : ℕ
+readerWords = 48
+
+-- the words of a place
 abbrev pub placeWords : ℕ
 placeWords = 20
 
 -- the bytes of a place, and its words
+unfoldable pub bytesFrom : List ℕ → ℕ → ℕ → List ℕ
+bytesFrom w i zero = []
+bytesFrom w i (suc n) = little 8 (getD w i 0) ++ bytesFrom w (i + 1) n
+
 unfoldable pub bytesIn : List ℕ → ℕ → List ℕ
-bytesIn w from = each (little 8) (take placeWords (drop from w))
+bytesIn w from = bytesFrom w from placeWords
 
 unfoldable pub wordsIn : List ℕ → List ℕ
 wordsIn l = numbersFrom l 0 placeWords
@@ -36,15 +43,14 @@ numbersIn w = record { kept = getD w 40 0; file = getD w 41 0; stopped = not (eq
 unfoldable pub toldBy : List ℕ → StreamReader
 toldBy w = readerIn (numbersIn w) (bytesIn w 0) (bytesIn w placeWords)
 
-unfoldable pub sameWords : List ℕ → List ℕ → Bool
-sameWords [] [] = true
-sameWords [] (w ∷ ws) = false
-sameWords (v ∷ vs) [] = false
-sameWords (v ∷ vs) (w ∷ ws) = eqb v w && sameWords vs ws
+-- the first n words are the same
+unfoldable pub sameWords : List ℕ → List ℕ → ℕ → Bool
+sameWords v w zero = true
+sameWords v w (suc n) = sameWords v w n && eqb (getD v n 0) (getD w n 0)
 
 -- words that are those of no reader count as a stopped one
 unfoldable pub readerBy : List ℕ → StreamReader
-readerBy w = cond (sameWords (wordsOf (toldBy w)) w) (toldBy w) (halted [])
+readerBy w = cond (sameWords (wordsOf (toldBy w)) w readerWords) (toldBy w) (halted [])
 
 -- reader_read: 0-7 number, 8-23 the opcode after 4, 24 finished, 32-63 the log's length, or after 7 the bytes needed
 abbrev pub callBits : Call → ℕ

@@ -1,1 +1,0 @@
-// A reader as words.
