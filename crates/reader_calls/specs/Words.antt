@@ -1,6 +1,7 @@
 -- A reader as the 48 words that a C caller keeps: 20 words of the unfinished item's bytes and 20 of the latest good file's, lowest byte
 -- first and zero bytes behind; how many bytes each has; 1 where the reader has stopped; and words that are 0.
-use Prim.Native.Nat.{ℕ, zero, suc, _+_, _*_, _^_}
+use Prim.Native.Nat.{ℕ, zero, suc, _+_, _*_, _^_, _≤_}
+use mathlib.Core.Path.{_≡_}
 use mathlib.Core.List.{List, [], _∷_, _++_}
 use mathlib.Core.Bool.{Bool, true, cond, not, _&&_}
 use lib.ListN.{length, getD, replicate}
@@ -10,7 +11,7 @@ use Rattle.registers.specs.Files.{numbersFrom}
 use Rattle.streams.specs.Cuts.{halted}
 use Rattle.streams.specs.Streams.{StreamReader}
 use Rattle.streams.specs.declared.Call.{Call}
-use Rattle.reader.specs.Held.{readerIn}
+use Rattle.reader.specs.Held.{itemRoom, readerIn}
 use Rattle.reader.specs.declared.chunks.Reader.{Reader}
 
 abbrev pub readerWords : ℕ
@@ -55,3 +56,10 @@ readerBy w = cond (sameWords (wordsOf (toldBy w)) w readerWords) (toldBy w) (hal
 -- reader_read: 0-7 number, 8-23 the opcode after 4, 24 finished, 32-63 the log's length, or after 7 the bytes needed
 abbrev pub callBits : Call → ℕ
 callBits a = a .number + a .opcode * 2 ^ 8 + cond (a .finished) 1 0 * 2 ^ 24 + a .n * 2 ^ 32
+
+-- the numbers lie in the places
+pub record Placed (r : Reader) (item file : List ℕ) : Type 0 where
+  pub place : length item ≡ itemRoom
+  pub beside : length file ≡ itemRoom
+  pub kept : r .kept ≤ itemRoom
+  pub held : r .file ≤ itemRoom

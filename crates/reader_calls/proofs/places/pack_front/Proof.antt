@@ -1,3 +1,13 @@
+use Rattle.reader_calls.proofs.Packing.{padded}
+use Rattle.reader_calls.specs.Words.{wordsIn}
+use Rattle.reader.specs.Held.{itemRoom}
+use lib.Seq.{sets}
+use Prim.Native.Nat.{ℕ}
+use mathlib.Core.List.{List}
+use lib.Seq.{length-take-le}
+use lib.ListN.{take, length-take}
+use mathlib.Core.Path.{_≡_, sym, ap, _∙_}
+use native.Mathlib.Omega.{arith}
 use borrow.Author.Needs.{needs}
 use Rattle.reader_calls.proofs.places.pack_front.Statement.{statement}
 use Rattle.reader_calls.proofs.places.pack_front.Tie as tie
@@ -6,29 +16,23 @@ use Rattle.reader_calls.proofs.places.pack_front.Lts as lts
 use Rattle.reader.proofs.fill.Reads as fill-reads
 use Rattle.reader_calls.proofs.places.pack.Reads as pack-reads
 
--- src/places.rt:44:18
 slice-aggregate-fill : tie.Need-slice-aggregate-fill
 slice-aggregate-fill c = search needs
 
--- src/places.rt:44:33
 slice-aggregate-fill-2 : tie.Need-slice-aggregate-fill-2
-slice-aggregate-fill-2 c = ?
+slice-aggregate-fill-2 c = let s = c .before .before .before in sym (length-take-le (s .args .n) (s .args .bytes .now) (s .pre .2))
 
--- src/places.rt:44:5
 fill-requires : tie.Need-fill-requires
-fill-requires c κs = ?
+fill-requires c κs = let s = c .before .before .before in omega (arith, length-take (s .args .n) (s .args .bytes .now), s .pre .1)
 
--- src/places.rt:45:23
 slice-aggregate-pack : tie.Need-slice-aggregate-pack
 slice-aggregate-pack c = search needs
 
--- src/places.rt:45:5
 pack-requires : tie.Need-pack-requires
 pack-requires c κs = search needs
 
--- src/places.rt:39:1
 returns : tie.Need-returns
-returns c = ?
+returns c = let s = c .before .before .before .before .before .before .before .before in c .pack .ensures ∙ ap (λ (l : List ℕ). sets (s .args .words .now) (s .args .from) l) (ap wordsIn (c .before .before .before .before .fill .ensures) ∙ padded itemRoom (take (s .args .n) (s .args .bytes .now)))
 
 pub pack-front-spec : {M : Type 1} → statement M
 pack-front-spec =
