@@ -117,7 +117,7 @@ file-held file n h = go (ltb n itemRoom) refl
         let l : itemRoom ≤ n = ltb-false n itemRoom e in
         absurd (no-true (sym (too-long file n long (λ (z : n ≡ 0). omega arith) l) ∙ h))
 
-nothing-held : (item file : List ℕ) → readerIn none item file ≡ readerWith none item file
+pub nothing-held : (item file : List ℕ) → readerIn none item file ≡ readerWith none item file
 unfolding readerIn
 nothing-held item file = go (holdsPart item 0 && holdsFile file 0)
   where

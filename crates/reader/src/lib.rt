@@ -5,9 +5,9 @@ mod items; // items.rt: a chunk taken item by item
 mod kinds; // kinds.rt: the kinds of items and their lengths
 
 pub use chunks::ITEM_ROOM;
-pub use items::fill;
+pub use chunks::Reader;
+pub use chunks::Reply;
 pub use chunks::checked;
 pub use chunks::close_reader;
 pub use chunks::read_chunk;
-pub use chunks::Reader;
-pub use chunks::Reply;
+pub use items::fill;

@@ -1,2 +1,3 @@
 pub mod Packing
 pub mod Ordered
+pub mod Holding

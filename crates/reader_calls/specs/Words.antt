@@ -11,7 +11,7 @@ use Rattle.registers.specs.Files.{numbersFrom}
 use Rattle.streams.specs.Cuts.{halted}
 use Rattle.streams.specs.Streams.{StreamReader}
 use Rattle.streams.specs.declared.Call.{Call}
-use Rattle.reader.specs.Held.{itemRoom, readerIn}
+use Rattle.reader.specs.Held.{itemRoom, readerIn, Handed}
 use Rattle.reader.specs.declared.chunks.Reader.{Reader}
 
 abbrev pub readerWords : ℕ
@@ -63,3 +63,10 @@ pub record Placed (r : Reader) (item file : List ℕ) : Type 0 where
   pub beside : length file ≡ itemRoom
   pub kept : r .kept ≤ itemRoom
   pub held : r .file ≤ itemRoom
+
+-- what a call leaves: the number, the bytes taken, the reader's words and the log buffer
+pub record Answered (r t : ℕ) (w l : List ℕ) (h : Handed) : Type 0 where
+  pub bits : r ≡ callBits (h .call)
+  pub taken : t ≡ h .call .taken
+  pub words : w ≡ wordsOf (h .next)
+  pub log : l ≡ h .buffer

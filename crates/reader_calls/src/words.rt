@@ -8,8 +8,8 @@ ghost use lib.ListN.{length};
 ghost use Rattle.reader.specs.Held.{itemRoom, readerWith, readerIn};
 ghost use Rattle.reader_calls.specs.Words.{readerWords, placeWords, bytesIn, wordsOf, numbersIn, toldBy, sameWords, readerBy, Placed};
 
-fn bit(t: bool) -> u64
-    ensures { λ r. ⌜ r ≡ cond t 1 0 ⌝ }
+pub fn bit(t: bool) -> u64
+    ensures { λ r. ⌜ (r ≡ cond t 1 0) × (r < 2) ⌝ }
 {
     if t { 1 } else { 0 }
 }

@@ -44,10 +44,11 @@ loop-less : tie.Need-loop-less Inv-loop μ-loop
 loop-less c = omega arith
 
 loop-again : tie.Need-loop-again Inv-loop μ-loop
-loop-again c = let l = c .before .before .loop in let s = c .before .before .before .before in
-    (omega arith,
-    ap (λ (v : ℕ). sets (set (l .words) (s .args .from + l .i) v) (s .args .from + (l .i + 1)) (toCome (s .args .bytes .now) (l .i + 1))) (c .u64-at .ensures)
-    ∙ one-stored (l .words) (s .args .bytes .now) (s .args .from) (l .i) (c .before .loop-test .taken) ∙ l .inv .1)
+loop-again c = let l = c .before .before .loop in let s = c .before .before .before .before in (
+  omega arith,
+  ap (λ (v : ℕ). sets (set (l .words) (s .args .from + l .i) v) (s .args .from + (l .i + 1)) (toCome (s .args .bytes .now) (l .i + 1))) (c .u64-at .ensures)
+      ∙ one-stored (l .words) (s .args .bytes .now) (s .args .from) (l .i) (c .before .loop-test .taken) ∙ l .inv .1,
+)
 
 returns : tie.Need-returns Inv-loop μ-loop
 returns c = let l = c .before .loop in let s = c .before .before .before in all-stored (l .words) (s .args .words .now) (s .args .bytes .now) (s .args .from) (l .i) (c .loop-test .left) (l .inv .1)

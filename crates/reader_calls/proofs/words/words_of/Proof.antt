@@ -26,7 +26,7 @@ array-write-words-3 : tie.Need-array-write-words-3
 array-write-words-3 c = search needs
 
 returns : tie.Need-returns
-returns c = let s = c .before .before .before .before .before .before .before in written (s .args .r) (s .args .item .now) (s .args .file .now) (s .pre) (c .before .before .before .pack-front .last .0) (c .before .pack-front2 .last .0) (c .bit .result) (c .before .before .before .pack-front .ensures) (c .before .pack-front2 .ensures) (c .bit .ensures)
+returns c = let s = c .before .before .before .before .before .before .before in written (s .args .r) (s .args .item .now) (s .args .file .now) (s .pre) (c .before .before .before .pack-front .last .0) (c .before .pack-front2 .last .0) (c .bit .result) (c .before .before .before .pack-front .ensures) (c .before .pack-front2 .ensures) (c .bit .ensures .0)
 
 pub words-of-spec : {M : Type 1} → statement M
 words-of-spec =
