@@ -2,8 +2,9 @@
  * Machhurel: which registers and which memory an x86-64 instruction touched, in order.
  *
  * Every call takes bytes and answers one 64-bit number. Any bytes at any length get an answer: no call fails, traps, allocates or keeps
- * anything, and calls may run on any thread at once as long as no two write the same buffer or watch. A pointer may be NULL where its
- * length is 0. Otherwise it points to that many bytes, and a buffer or a watch that is written overlaps no other argument.
+ * anything, and calls may run on any thread at once as long as no two write the same buffer, session or watch. A pointer may be NULL
+ * where its length is 0. Otherwise it points to that many bytes, and a buffer, a session or a watch that is written overlaps no other
+ * argument.
  *
  * Records are 40 bytes of kind 0x10, register files 141 bytes of kind 0x20; numbers are little-endian. docs/FORMAT.md has every
  * field, table and rule.
@@ -51,7 +52,7 @@ extern "C" {
 /* Every answer: the refusal number, 0 for none (for machhurel_event also MACHHUREL_FINISHED). */
 #define MACHHUREL_NUMBER(answer) MACHHUREL_CAST(unsigned, ((answer) & 0xFF))
 
-/* machhurel_visit, machhurel_listing: the bytes written, after refusal 7 those needed; and after refusal 4 the opcode. */
+/* machhurel_visit, machhurel_append, machhurel_listing: the bytes written, after refusal 7 those needed; and after refusal 4 the opcode. */
 #define MACHHUREL_COUNT(answer) MACHHUREL_CAST(uint32_t, ((answer) >> 32))
 #define MACHHUREL_OPCODE(answer) MACHHUREL_CAST(uint16_t, (((answer) >> 8) & 0xFFFF))
 
@@ -71,6 +72,17 @@ extern "C" {
 
 /* machhurel_difference: the sign, 1 where the logs differ. */
 #define MACHHUREL_DIFFERS(answer) MACHHUREL_CAST(unsigned, (((answer) >> 8) & 1))
+
+/*
+ * A log session: what stands in a buffer that logs are appended to. machhurel_reset empties it, and machhurel_append goes on with it.
+ * Between two calls the bytes used must stay as they are; the rest of the buffer is free. Then the counts are always those that reading
+ * the log from its start would give, and none of them wraps. Any words at all get an answer.
+ */
+typedef struct machhurel_session {
+    uint64_t used;    /* bytes, from the buffer's start on */
+    uint64_t events;  /* in these bytes */
+    uint64_t unknown; /* of the events, those of kinds 5 and 6: memory events at an unknown address */
+} machhurel_session;
 
 /*
  * A watched variable, and what the pairs of a trace did to it so far. Pairs are numbered from 0. machhurel_watch_new writes it, and
@@ -144,6 +156,17 @@ uint64_t machhurel_event(const uint8_t *log, size_t log_len, size_t at);
  */
 uint64_t machhurel_difference(const uint8_t *first, size_t first_len, const uint8_t *second, size_t second_len,
                               uint64_t *at);
+
+/*
+ * Visits the record under the register file as machhurel_visit does, from session->used on, and counts the log that it wrote. Answers as
+ * machhurel_visit: the log's length in MACHHUREL_COUNT, after 7 the bytes that this append needs. Refused, it changes no byte and no
+ * count. The buffer is lent to each call; one that ends before session->used is refused 7, where none of 1 to 6 comes first.
+ */
+uint64_t machhurel_append(machhurel_session *session, const uint8_t *record, size_t record_len, const uint8_t *file, size_t file_len,
+                          uint8_t *log, size_t log_len);
+
+/* Makes the three counts 0; the next append writes at the buffer's start. No byte of a buffer is cleared. Answers 0. */
+uint64_t machhurel_reset(machhurel_session *session);
 
 /* A new watch of the `length` bytes from `address` on, byte addresses modulo two to the 64. Refuses 2 for another length than 1 to 8. */
 uint64_t machhurel_watch_new(machhurel_watch *watch, uint64_t address, uint64_t length);

@@ -1,20 +1,49 @@
-//! Visits the same records by the given Rust and by the library, in interleaved rounds, and prints medians.
+//! Visits the same records by the given Rust and by the library, in interleaved rounds, and prints medians of the processor's time.
 //!
-//! `bench [--records N] [--rounds R] [--seed S]` compares; `bench --count rust|ours|watch|none --input mixed|everyday` runs one side
-//! once, for a tool that counts instructions (`watch` steps a watch over the pairs; `none` makes the input and visits nothing).
+//! `bench [--records N] [--rounds R] [--seed S]` compares; `bench --count rust|before|ours|watch|none --input
+//! mixed|everyday|indexed` runs one side once, for a tool that counts instructions (`watch` steps a watch over the pairs; `none`
+//! makes the input and visits nothing). `before` is there where the bench was built with MACHHUREL_BEFORE: see build.rs.
 
+#[cfg(before)]
+mod before;
 mod everyday;
+mod forms;
+mod indexed;
 mod inputs;
 mod ours;
 mod theirs;
 
 use std::hint::black_box;
-use std::time::Instant;
+use std::os::raw::c_long;
 
 use inputs::Input;
 
+extern "C" {
+    /// The processor's time that this process took, in millionths of a second: other work on the machine counts little.
+    fn clock() -> c_long;
+}
+
+/// Seconds of the processor's time.
+fn now() -> f64 {
+    // SAFETY: it takes nothing and only answers.
+    unsafe { clock() as f64 / 1e6 }
+}
+
+type Visit = fn(&[u8], &[u8], &mut [u8; 177]) -> usize;
+
+/// Who visits, by name: the given Rust comes first.
+const SIDES: &[(&str, Visit)] = &[
+    ("rust", theirs::visit),
+    #[cfg(before)]
+    ("before", before::visit),
+    ("ours", ours::visit),
+];
+
+const INPUTS: [(&str, fn(u64, usize) -> Input); 3] =
+    [("mixed", inputs::mixed), ("everyday", everyday::input), ("indexed", indexed::input)];
+
 /// One pass over the input: the bytes of all logs, added up.
-fn pass(input: &Input, visit: fn(&[u8], &[u8], &mut [u8; 177]) -> usize) -> usize {
+fn pass(input: &Input, visit: Visit) -> usize {
     let mut log = [0u8; 177];
     let mut total = 0;
     for (record, file) in input.pairs() {
@@ -29,26 +58,37 @@ fn median(mut times: Vec<f64>) -> f64 {
     times[times.len() / 2]
 }
 
-fn compare(name: &str, input: &Input, rounds: usize) {
-    let (mut rust, mut mine) = (Vec::new(), Vec::new());
-    let expected = pass(input, theirs::visit);
-    assert_eq!(expected, pass(input, ours::visit), "the two wrote different numbers of bytes");
-    for _ in 0..rounds {
-        let begun = Instant::now();
-        black_box(pass(input, theirs::visit));
-        rust.push(begun.elapsed().as_secs_f64());
-        let begun = Instant::now();
-        black_box(pass(input, ours::visit));
-        mine.push(begun.elapsed().as_secs_f64());
+/// Panics unless all sides write the same log for every record, byte for byte.
+fn assert_same_logs(input: &Input) {
+    for (number, (record, file)) in input.pairs().enumerate() {
+        let logs: Vec<_> = SIDES
+            .iter()
+            .map(|(_, visit)| {
+                let mut log = [0u8; 177];
+                let length = visit(record, file, &mut log);
+                log[..length].to_vec()
+            })
+            .collect();
+        assert!(logs.iter().all(|log| *log == logs[0]), "record {number}: the logs differ");
     }
-    let records = input.len() as f64;
-    let (rust, mine) = (median(rust) / records * 1e9, median(mine) / records * 1e9);
-    println!(
-        "{name}: {} records, {:.1} log bytes a record; given Rust {rust:.1} ns, ours {mine:.1} ns, ratio {:.2}",
-        input.len(),
-        expected as f64 / records,
-        mine / rust
-    );
+}
+
+fn compare(name: &str, input: &Input, rounds: usize) {
+    assert_same_logs(input);
+    let mut times = vec![Vec::new(); SIDES.len()];
+    for _ in 0..rounds {
+        for ((_, visit), times) in SIDES.iter().zip(&mut times) {
+            let begun = now();
+            black_box(pass(input, *visit));
+            times.push(now() - begun);
+        }
+    }
+    let records = input.len();
+    println!("{name}: {records} records, the logs are the same on every record");
+    let medians: Vec<f64> = times.into_iter().map(|times| median(times) / records as f64 * 1e9).collect();
+    for ((side, _), median) in SIDES.iter().zip(&medians) {
+        println!("    {side}: {median:.1} ns a record, {:.2} of the given Rust", median / medians[0]);
+    }
 }
 
 fn argument(name: &str) -> Option<String> {
@@ -61,21 +101,20 @@ fn main() {
     let records = number("--records", 1_000_000) as usize;
     let seed = number("--seed", 1);
     if let Some(side) = argument("--count") {
-        let input = match argument("--input").as_deref() {
-            Some("everyday") => everyday::input(seed, records),
-            _ => inputs::mixed(seed, records),
-        };
-        let total = match side.as_str() {
-            "rust" => pass(&input, theirs::visit),
-            "ours" => pass(&input, ours::visit),
-            "watch" => ours::watch(&input),
-            _ => 0,
+        let wanted = argument("--input").unwrap_or("mixed".to_string());
+        let (_, made) = INPUTS.iter().find(|(name, _)| *name == wanted).expect("mixed, everyday or indexed");
+        let input = made(seed, records);
+        let total = match SIDES.iter().find(|(name, _)| *name == side) {
+            Some((_, visit)) => pass(&input, *visit),
+            None if side == "watch" => ours::watch(&input),
+            None => 0,
         };
         println!("{total}");
         return;
     }
     let rounds = number("--rounds", 11) as usize;
     println!("bench: seed {seed}, {rounds} interleaved rounds, medians");
-    compare("mixed", &inputs::mixed(seed, records), rounds);
-    compare("everyday", &everyday::input(seed, records), rounds);
+    for (name, made) in INPUTS {
+        compare(name, &made(seed, records), rounds);
+    }
 }

@@ -3,13 +3,23 @@ use crate::choice::Choice;
 use crate::name::harmless;
 use crate::nearest::nearest;
 use std::ffi::{OsStr, OsString};
+use std::os::unix::ffi::OsStrExt;
 
 /// What was asked of a command.
 #[derive(Debug)]
 pub(crate) struct Arguments {
-    chosen: Vec<(&'static str, String)>,
+    chosen: Vec<Chosen>,
     /// The words that are no options: traces.
     pub(crate) operands: Vec<OsString>,
+}
+
+/// An option that was given.
+#[derive(Debug)]
+struct Chosen {
+    name: &'static str,
+    /// Its value, shown harmlessly.
+    value: String,
+    typed: OsString,
 }
 
 /// Why the words cannot be taken, or that help is wanted.
@@ -52,8 +62,15 @@ impl Arguments {
     pub(crate) fn all<'a>(&'a self, choice: &'a Choice) -> impl Iterator<Item = &'a str> + 'a {
         let given = self.chosen.iter();
         given
-            .filter(move |(name, _)| *name == choice.name)
-            .map(|(_, value)| value.as_str())
+            .filter(move |chosen| chosen.name == choice.name)
+            .map(|chosen| chosen.value.as_str())
+    }
+
+    /// The last value of an option as it was typed: a file's name may be no text.
+    pub(crate) fn last_typed(&self, choice: &Choice) -> Option<&OsStr> {
+        let mut given = self.chosen.iter().rev();
+        let last = given.find(|chosen| chosen.name == choice.name);
+        last.map(|chosen| chosen.typed.as_os_str())
     }
 
     /// The value of an option that is taken once; the last one counts.
@@ -67,19 +84,16 @@ fn take(
     choices: &'static [Choice],
     word: &OsStr,
     more: &mut impl Iterator<Item = OsString>,
-) -> Result<(&'static str, String), Instead> {
-    let typed = harmless(word);
-    let (name, value) = match typed.split_once('=') {
-        Some((name, value)) => (name, Some(value.to_string())),
-        None => (typed.as_str(), None),
-    };
+) -> Result<Chosen, Instead> {
+    let mut halves = word.as_bytes().splitn(2, |byte| *byte == b'=');
+    let half = |bytes: &[u8]| OsStr::from_bytes(bytes).to_os_string();
+    let name = harmless(&halves.next().map(half).unwrap_or_default());
     let choice = match choices.iter().find(|choice| choice.name == name) {
         Some(choice) => choice,
-        None => return Err(Instead::Wrong(unknown(choices, name))),
+        None => return Err(Instead::Wrong(unknown(choices, &name))),
     };
-    let value = value.or_else(|| more.next().map(|word| harmless(&word)));
-    let value = match value {
-        Some(value) => value,
+    let typed = match halves.next().map(half).or_else(|| more.next()) {
+        Some(typed) => typed,
         None => {
             let words = format!(
                 "{} needs a value: {} {}",
@@ -88,10 +102,12 @@ fn take(
             return Err(Instead::Wrong(words));
         }
     };
+    let value = harmless(&typed);
     if !choice.values.is_empty() && !choice.values.contains(&value.as_str()) {
         return Err(wrong(choice, &value, &choice.values.join(", ")));
     }
-    Ok((choice.name, value))
+    let name = choice.name;
+    Ok(Chosen { name, value, typed })
 }
 
 fn unknown(choices: &'static [Choice], name: &str) -> String {

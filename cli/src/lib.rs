@@ -22,6 +22,7 @@
 mod arguments;
 mod choice;
 pub mod command;
+pub mod completion;
 mod difference;
 mod format;
 pub mod help;

@@ -75,6 +75,10 @@ impl Range {
     pub(crate) fn has(self, n: u64) -> bool {
         self.from <= n && n < self.to
     }
+
+    pub(crate) fn count(self) -> u64 {
+        self.to.saturating_sub(self.from)
+    }
 }
 
 #[cfg(test)]

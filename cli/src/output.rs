@@ -26,12 +26,15 @@ const FULL: usize = 1 << 16;
 pub(crate) struct Output {
     /// What is not written yet.
     pub(crate) bytes: Vec<u8>,
+    /// Whether the rest is still wanted where the reader has gone: something else comes of it.
+    pub(crate) outlives_reader: bool,
 }
 
 impl Output {
     pub(crate) fn new() -> Output {
         Output {
             bytes: Vec::with_capacity(2 * FULL),
+            outlives_reader: false,
         }
     }
 
@@ -48,7 +51,10 @@ impl Output {
         let mut out = io::stdout();
         let written = out.write_all(&self.bytes).and_then(|()| out.flush());
         self.bytes.clear();
-        Ok(written?)
+        match written.map_err(Unwritten::from) {
+            Err(Unwritten::Closed) if self.outlives_reader => Ok(()),
+            written => written,
+        }
     }
 }
 

@@ -68,7 +68,7 @@ pub fn man() -> String {
     page.extend(help::GENERAL.map(|(name, words)| option(name, words)));
     page.push_str(".SH EXAMPLES\n.nf\n");
     page.push_str(&escaped(
-        "machhurel show --writes 0x1008+8 --records 100..200 --format csv trace\nmachhurel watch trace 0x1008 8",
+        "machhurel show --writes 0x1008+8 --records 100..200 --format csv trace\nmachhurel watch trace 0x1008 8 --html page.html",
     ));
     page.push_str(".fi\n");
     page

@@ -242,6 +242,16 @@ impl Model {
         );
         text += &format!("  {none} wrote none of it\n  {unknown} went to an unknown address\n");
         text += &format!("  {} refused\n", many(self.refused, "pair"));
+        // bytes of the variable on both sides of a multiple of 64
+        let line = |byte: u64| address.wrapping_add(byte) >> 6;
+        if let (Some(before), 1..) = ((0..length).find(|k| line(*k) != line(0)), self.counts[3]) {
+            let each = if self.counts[3] == 1 { "the" } else { "each" };
+            let end = address.wrapping_add(before);
+            text += &format!(
+                "warning: the variable lies across the end of a cache line, {before} of its {length} bytes before 0x{end:016x}: \
+                 {each} store that wrote all of it tears for a reader on another core\n"
+            );
+        }
         if !self.reasons.is_empty() || self.damages > 0 {
             text += "the answer is not complete: the variable may have been written where nobody can tell\n";
         }
@@ -341,6 +351,30 @@ fn stores_around_two_to_the_64_against_the_model() {
         statuses[status as usize] += 1;
     }
     assert!([0, 3, 4].iter().all(|k| statuses[*k] > 5), "{statuses:?}");
+}
+
+#[test]
+fn a_variable_across_the_end_of_a_cache_line_is_warned_of_in_each_format() {
+    let trace = [&RegisterFile::new()[..], &store(Some(0x103C), 8)].concat();
+    let words = "the variable lies across the end of a cache line, 4 of its 8 bytes before 0x0000000000001040: \
+                 the store that wrote all of it tears for a reader on another core";
+    for (format, line) in [
+        ("text", format!("warning: {words}")),
+        (
+            "csv",
+            format!("standard input,warning,,,,0x0000000000001040,,,1,,,,\"{words}\""),
+        ),
+        (
+            "json",
+            format!("{{\"trace\":\"standard input\",\"what\":\"warning\",\"address\":\"0x0000000000001040\",\"count\":1,\"reason\":\"{words}\"}}"),
+        ),
+    ] {
+        let ran = pipe(&["watch", "-", "0x103c", "8", "--format", format], &trace);
+        assert_eq!(ran.status, Some(0));
+        assert!(ran.output.lines().any(|each| each == line), "{}", ran.output);
+        let beside = pipe(&["watch", "-", "0x103c", "4", "--format", format], &trace);
+        assert!(!beside.output.contains("warning"), "{}", beside.output);
+    }
 }
 
 #[test]

@@ -1,7 +1,7 @@
 //! The C interface itself, for callers that want the bits of an answer: include/machhurel.h says which bits hold what.
 //!
-//! Each pointer and length must be those of one slice, a pointer alone that of one number, and a watch ten words that nobody
-//! else writes; that is all that a call asks.
+//! Each pointer and length must be those of one slice, a pointer alone that of one number, and a watch ten words, a session three,
+//! that nobody else writes; that is all that a call asks.
 #![allow(missing_docs)]
 
 extern "C" {
@@ -32,6 +32,16 @@ extern "C" {
         second_len: usize,
         at: *mut u64,
     ) -> u64;
+    pub fn machhurel_append(
+        session: *mut [u64; 3],
+        record: *const u8,
+        record_len: usize,
+        file: *const u8,
+        file_len: usize,
+        log: *mut u8,
+        log_len: usize,
+    ) -> u64;
+    pub fn machhurel_reset(session: *mut [u64; 3]) -> u64;
     pub fn machhurel_watch_new(watch: *mut [u64; 10], address: u64, length: u64) -> u64;
     pub fn machhurel_watch_step(
         watch: *mut [u64; 10],

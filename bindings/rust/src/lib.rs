@@ -45,6 +45,7 @@ mod reader;
 mod record;
 mod refusal;
 mod register;
+mod session;
 mod spec;
 mod watch;
 
@@ -63,6 +64,7 @@ pub use reader::{TraceError, TraceReader};
 pub use record::{Record, RecordBuilder};
 pub use refusal::{Refusal, RefusedRecord};
 pub use register::{bank_name, Register, BANK_COUNT};
+pub use session::Session;
 pub use spec::Spec;
 pub use watch::{verdict, Named, Names, Step, Tally, Verdict, Watch, WATCH_PAIRS};
 

@@ -134,6 +134,34 @@ impl Watch {
         })
     }
 
+    /// Which of the variable's bytes an event reached, read or written: bit i for byte i. None where it is no access of memory, or its
+    /// address is not known. A read reaches what the library says that a store of as many bytes at its address writes.
+    ///
+    /// ```
+    /// use machhurel::{Event, Watch};
+    /// let watch = Watch::new(0x1008, 8)?;
+    /// let read = |address, size| watch.reached(&Event::MemoryRead { address, size });
+    /// assert_eq!((read(Some(0x1008), 8), read(Some(0x100C), 8)), (0xFF, 0xF0));
+    /// assert_eq!((read(Some(0x1010), 8), read(None, 8)), (0, 0));
+    /// # Ok::<(), machhurel::Refusal>(())
+    /// ```
+    pub fn reached(&self, event: &Event) -> u8 {
+        let (address, size) = match *event {
+            Event::MemoryRead { address, size } | Event::MemoryWrite { address, size } => {
+                (address, size)
+            }
+            _ => (None, 0),
+        };
+        let store = match address {
+            None => return 0,
+            Some(address) => store_at(address, size),
+        };
+        match verdict(self.address(), self.length(), &store, 0) {
+            Some(Ok(named)) => named.touched,
+            _ => 0,
+        }
+    }
+
     /// The events of a log, each with what it did to the variable.
     pub fn names<'a>(&self, log: &'a [u8]) -> Names<'a> {
         Names {
@@ -183,6 +211,16 @@ impl Watch {
     pub fn last_whole(&self) -> Option<u64> {
         Some(self.words[9]).filter(|&number| number != NEVER)
     }
+}
+
+/// How a store at a known address begins, and its length in a log: kind, address, size.
+const STORE: u8 = 4;
+const STORE_BYTES: usize = 10;
+
+/// The log of one store.
+fn store_at(address: u64, size: u8) -> [u8; STORE_BYTES] {
+    let [a, b, c, d, e, f, g, h] = address.to_le_bytes();
+    [STORE, a, b, c, d, e, f, g, h, size]
 }
 
 /// What an event did to a watched variable.

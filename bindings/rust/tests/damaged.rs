@@ -1,21 +1,8 @@
 //! Damaged input gets an answer, and a refused call changes nothing.
+mod common;
+
+use common::Random;
 use machhurel::*;
-
-/// A small generator with a fixed seed: xorshift.
-struct Random(u64);
-
-impl Random {
-    fn next(&mut self) -> u64 {
-        self.0 ^= self.0 << 13;
-        self.0 ^= self.0 >> 7;
-        self.0 ^= self.0 << 17;
-        self.0
-    }
-
-    fn bytes(&mut self, n: usize) -> Vec<u8> {
-        (0..n).map(|_| self.next() as u8).collect()
-    }
-}
 
 fn store_record() -> [u8; RECORD_BYTES] {
     let mut record = [0u8; RECORD_BYTES];
@@ -111,7 +98,10 @@ fn each_refusal() {
         visit(&good, &file, &mut log, usize::MAX),
         Err(Refusal::Room { needed: 10 })
     );
-    assert_eq!(visit(&good, &file, &mut [], 0), Err(Refusal::Room { needed: 10 }));
+    assert_eq!(
+        visit(&good, &file, &mut [], 0),
+        Err(Refusal::Room { needed: 10 })
+    );
     assert_eq!(
         Refusal::Complex { opcode: 24 }.to_string(),
         "refused 4 (opcode 24, BT): complex: its accesses are no plain list"

@@ -1,22 +1,9 @@
 //! Where two logs part, judged by a second reading of the bytes: this file parses logs by itself, from the layout of
 //! events alone.
+mod common;
+
+use common::Random;
 use machhurel::{difference, ffi, Difference, Event, Events, Register};
-
-/// A small generator with a fixed seed: xorshift.
-struct Random(u64);
-
-impl Random {
-    fn next(&mut self) -> u64 {
-        self.0 ^= self.0 << 13;
-        self.0 ^= self.0 >> 7;
-        self.0 ^= self.0 << 17;
-        self.0
-    }
-
-    fn below(&mut self, n: usize) -> usize {
-        (self.next() % n as u64) as usize
-    }
-}
 
 /// Which registers a log may name: asked of the event call, which the oracle judges by the given Rust.
 struct Banks(Vec<[bool; 256]>);
@@ -97,10 +84,10 @@ fn answered(first: &[u8], second: &[u8]) -> (u8, bool, usize) {
 
 fn event(random: &mut Random) -> Vec<u8> {
     // banks 0 to 8 have eight registers or more
-    let register = [random.below(9) as u8, random.below(8) as u8];
-    let address = (random.next() >> random.below(60)).to_le_bytes();
-    let size = [1 + random.below(64) as u8];
-    match 1 + random.below(6) as u8 {
+    let register = [random.index(9) as u8, random.index(8) as u8];
+    let address = (random.next() >> random.index(60)).to_le_bytes();
+    let size = [1 + random.index(64) as u8];
+    match 1 + random.index(6) as u8 {
         kind @ 1..=2 => [&[kind], &register[..]].concat(),
         kind @ 3..=4 => [&[kind], &address[..], &size[..]].concat(),
         kind => [&[kind], &size[..]].concat(),
@@ -108,19 +95,19 @@ fn event(random: &mut Random) -> Vec<u8> {
 }
 
 fn log(random: &mut Random) -> Vec<u8> {
-    let n = random.below(12);
+    let n = random.index(12);
     (0..n).flat_map(|_| event(random)).collect()
 }
 
 /// The log with a byte changed, a cut, or something put in, now and then with none of these.
 fn damaged(random: &mut Random, log: &[u8]) -> Vec<u8> {
     let mut bytes = log.to_vec();
-    let at = random.below(bytes.len() + 1);
-    match random.below(6) {
+    let at = random.index(bytes.len() + 1);
+    match random.index(6) {
         0 => bytes.truncate(at),
         1 => bytes.push(random.next() as u8),
         2 => bytes.extend(event(random)),
-        3 | 4 if at < bytes.len() => bytes[at] = random.below(70) as u8,
+        3 | 4 if at < bytes.len() => bytes[at] = random.index(70) as u8,
         _ => {}
     }
     bytes
@@ -133,11 +120,11 @@ fn random_and_damaged_logs() {
     let mut seen = [0u32; 5];
     for _ in 0..200_000 {
         let first = log(&mut random);
-        let second = match random.below(8) {
+        let second = match random.index(8) {
             0 => log(&mut random),
             _ => damaged(&mut random, &first),
         };
-        let first = match random.below(4) {
+        let first = match random.index(4) {
             0 => damaged(&mut random, &first),
             _ => first,
         };
@@ -172,8 +159,8 @@ fn random_bytes() {
     let mut random = Random(7);
     for _ in 0..100_000 {
         let mut bytes = || {
-            let n = random.below(24);
-            (0..n).map(|_| random.below(9) as u8).collect::<Vec<u8>>()
+            let n = random.index(24);
+            (0..n).map(|_| random.index(9) as u8).collect::<Vec<u8>>()
         };
         let (first, second) = (bytes(), bytes());
         assert_eq!(

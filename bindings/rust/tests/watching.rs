@@ -1,26 +1,9 @@
 //! A watch against a second reading of document 02's words: every byte by itself, in sets.
+mod common;
+
+use common::Random;
 use machhurel::*;
 use std::collections::HashSet;
-
-/// A small generator with a fixed seed: xorshift.
-struct Random(u64);
-
-impl Random {
-    fn next(&mut self) -> u64 {
-        self.0 ^= self.0 << 13;
-        self.0 ^= self.0 >> 7;
-        self.0 ^= self.0 << 17;
-        self.0
-    }
-
-    fn below(&mut self, n: u64) -> u64 {
-        self.next() % n
-    }
-
-    fn one_of<T: Copy>(&mut self, these: &[T]) -> T {
-        these[self.below(these.len() as u64) as usize]
-    }
-}
 
 /// A record and the file before it.
 type Pair = (Vec<u8>, Vec<u8>);

@@ -1,4 +1,5 @@
 //! A stretch of a trace, looked at on its own: stretches merge, so that several can be looked at at once.
+use super::moment::{Moment, Pair};
 use super::reasons::Why;
 use super::rows;
 use crate::format::Kind;
@@ -58,6 +59,8 @@ pub(super) struct Look {
     pub(super) kind: Kind,
     /// The trace's name.
     pub(super) name: String,
+    /// Whether every access of the variable is wanted, for a page.
+    pub(super) pictured: bool,
 }
 
 /// What was seen in a block.
@@ -71,6 +74,8 @@ pub(super) struct Seen {
     named: u64,
     /// Records of which not all is known, and why.
     pub(super) unsure: Vec<(u64, Why)>,
+    /// Every access of the variable, where that is wanted.
+    pub(super) moments: Option<Vec<Moment>>,
 }
 
 impl Look {
@@ -82,6 +87,7 @@ impl Look {
             lines: Vec::new(),
             named: 0,
             unsure: Vec::new(),
+            moments: Some(Vec::new()).filter(|_| self.pictured),
         };
         let mut file = block.file.as_slice();
         let mut number = block.first;
@@ -90,11 +96,22 @@ impl Look {
                 file = item.bytes;
                 continue;
             }
+            let opcode = item.opcode().unwrap_or(0);
             if let Ok(step) = seen.watch.step(item.bytes, file) {
-                seen.note(number, item.opcode().unwrap_or(0), &step);
+                seen.note(number, opcode, &step);
                 if step.tally.part > 0 {
                     self.name_parts(&mut seen, number, item.bytes, file);
                 }
+            }
+            if let Some(moments) = &mut seen.moments {
+                let record = item.bytes;
+                let pair = Pair {
+                    number,
+                    opcode,
+                    record,
+                    file,
+                };
+                pair.moments(&self.watch, moments);
             }
             number = number.saturating_add(1);
         }
@@ -127,9 +144,17 @@ impl Look {
 }
 
 impl Seen {
-    /// Whether no pair was passed over, and every part write named.
+    /// Whether no pair was passed over, and every part write named, in the lines and among the moments.
     pub(super) fn is_whole(&self) -> bool {
-        self.watch.pairs() == self.pairs && self.watch.tally().part == self.named
+        let tally = self.watch.tally();
+        let moments = self.moments.as_ref().map_or(true, |moments| {
+            let count = |is: fn(&&Moment) -> bool| moments.iter().filter(is).count() as u64;
+            count(|moment| matches!(moment, Moment::Part(_))) == tally.part
+                && count(|moment| matches!(moment, Moment::Whole(_))) == tally.whole
+                && count(|moment| matches!(moment, Moment::Hidden(..)))
+                    == tally.unknown.saturating_add(self.watch.refused())
+        });
+        self.watch.pairs() == self.pairs && tally.part == self.named && moments
     }
 
     fn note(&mut self, record: u64, opcode: u16, step: &Step) {

@@ -1,8 +1,12 @@
 //! `machhurel watch`: who tore a variable.
+mod across;
 mod answer;
 mod block;
+mod html;
 mod jobs;
+mod moment;
 mod reasons;
+mod records;
 mod rows;
 mod table;
 mod teller;
@@ -21,8 +25,10 @@ use crate::source::Source;
 use crate::status::Status;
 use crate::walk::Walk;
 use block::{Block, Look};
+use html::Target;
 use jobs::{Jobs, Lost};
 use machhurel::Watch;
+use std::ffi::OsString;
 use teller::Teller;
 
 pub(crate) const COMMAND: Command = Command {
@@ -45,9 +51,16 @@ Exit status of watch: 0 no store wrote part of the variable, and the answer is c
 seen to, and the answer is not complete; 1 the trace could not be opened, is damaged or cut, or output could not be written; 2 wrong
 usage. Where several hold it is the one that comes first of 2, 1, 3, 4.
 ",
-    choices: &[FORMAT, JOBS],
+    choices: &[FORMAT, HTML, JOBS],
     closing: help::trace,
     run,
+};
+
+const HTML: Choice = Choice {
+    name: "--html",
+    value: "FILE",
+    values: &[],
+    words: "write it as a page too, with its reads, a timeline and close-ups: one file, without script, under 100 KB",
 };
 
 const JOBS: Choice = Choice {
@@ -63,6 +76,7 @@ struct Asked {
     watch: Watch,
     kind: Kind,
     jobs: u64,
+    html: Option<OsString>,
 }
 
 impl Asked {
@@ -91,7 +105,14 @@ impl Asked {
             watch: watch.ok_or_else(|| expected("LENGTH", &length, "1 to 8"))?,
             kind: Kind::of(arguments),
             jobs,
+            html: arguments.last_typed(&HTML).map(OsString::from),
         })
+    }
+
+    /// Where the page goes, if one is wanted; or why it cannot go there.
+    fn target(&self) -> Result<Option<Target>, String> {
+        let html = self.html.as_ref();
+        html.map(|name| Target::of(name, &self.source)).transpose()
     }
 }
 
@@ -116,6 +137,11 @@ impl From<Lost> for Ended {
 
 fn run(arguments: &Arguments, output: &mut Output) -> Result<Status, Instead> {
     let asked = Asked::of(arguments)?;
+    let target = match asked.target() {
+        Ok(target) => target,
+        Err(words) => return Ok(failed(&words)),
+    };
+    output.outlives_reader = target.is_some();
     let mut walk = match Walk::open(&asked.source, true) {
         None => return Ok(Status::Failed),
         Some(walk) => walk,
@@ -124,36 +150,42 @@ fn run(arguments: &Arguments, output: &mut Output) -> Result<Status, Instead> {
         watch: asked.watch,
         kind: asked.kind,
         name: walk.name().to_string(),
+        pictured: target.is_some(),
     };
     output
         .bytes
         .extend_from_slice(rows::header(asked.kind).as_bytes());
     let mut teller = Teller::new(look.clone());
-    let ended = replay(
-        &mut walk,
-        &mut Jobs::new(look, asked.jobs),
-        &mut teller,
-        output,
-    );
+    let mut jobs = Jobs::new(look, asked.jobs);
+    let ended = replay(&mut walk, &mut jobs, &mut teller, output);
     let status = walk.status();
     Ok(match ended {
         Ok(()) => {
             let found = teller.end(output, walk.damages());
-            written(output.flush(), status.max(found))
+            let page = put_page(&mut teller, target, walk.damages());
+            written(output.flush(), status.max(found).max(page))
         }
         // whoever read it has gone: what came behind was not looked at
         Err(Ended::Unwritten(unwritten)) => {
             let seen = status.max(teller.status()).max(Status::Unsure);
             written(Err(unwritten), seen)
         }
-        Err(Ended::Lost) => {
-            complain(format_args!(
-                "{}: not every record was looked at",
-                walk.name()
-            ));
-            Status::Failed
-        }
+        Err(Ended::Lost) => failed(&format!("{}: not every record was looked at", walk.name())),
     })
+}
+
+/// Writes the page, where one is wanted.
+fn put_page(teller: &mut Teller, target: Option<Target>, damages: u64) -> Status {
+    let put = match (teller.page(damages), target) {
+        (Some(page), Some(target)) => target.write(&page),
+        _ => Ok(()),
+    };
+    put.map_or_else(|words| failed(&words), |()| Status::Done)
+}
+
+fn failed(words: &str) -> Status {
+    complain(format_args!("{words}"));
+    Status::Failed
 }
 
 fn replay(

@@ -1,4 +1,5 @@
 //! What a watch says, in each format.
+use super::across::Across;
 use super::answer::Answer;
 use super::reasons::{Others, Reasons};
 pub(super) use super::table::header;
@@ -65,6 +66,23 @@ pub(super) fn put_answer(
     text::put_answer(out, &words, answer);
 }
 
+/// A warning where stores of all of the variable reach over the end of a cache line.
+pub(super) fn put_across(
+    out: &mut Vec<u8>,
+    kind: Kind,
+    trace: &str,
+    watch: &Watch,
+    answer: &Answer,
+) {
+    match (Across::of(watch, answer), kind) {
+        (None, _) => {}
+        (Some(across), Kind::Text) => text::put_across(out, &across),
+        (Some(across), Kind::Csv | Kind::Json) => table::put_across(out, kind, trace, &across),
+    }
+}
+
+pub(super) const DAMAGED: &str = "places of the trace that are damaged or cut";
+
 /// That the answer is not complete, and why: nothing where it is.
 pub(super) fn put_reasons(
     out: &mut Vec<u8>,
@@ -74,7 +92,7 @@ pub(super) fn put_reasons(
     damages: u64,
 ) {
     let damaged = Others {
-        words: "places of the trace that are damaged or cut",
+        words: DAMAGED,
         count: damages,
         first: None,
     };

@@ -1,4 +1,5 @@
 //! What a watch says to other programs: rows of the same columns, as csv or as json.
+use super::across::Across;
 use super::answer::Answer;
 use super::reasons::{Others, Reason, Why};
 use super::touched::runs;
@@ -136,11 +137,20 @@ pub(super) fn put_answer(out: &mut Vec<u8>, kind: Kind, trace: &str, over: &str,
     }
 }
 
+pub(super) fn put_across(out: &mut Vec<u8>, kind: Kind, trace: &str, across: &Across) {
+    Row::new("warning")
+        .text("address", format!("0x{:016x}", across.address))
+        .number("count", across.stores)
+        .text("reason", across.to_string())
+        .put(out, kind, trace);
+}
+
 /// A row for each range of records, and one for those that are in none.
 pub(super) fn put_reason(out: &mut Vec<u8>, kind: Kind, trace: &str, reason: &Reason) {
-    let of = |range: &Range| (Some(*range), range.to.saturating_sub(range.from));
-    let more = Some((None, reason.more)).filter(|_| reason.more > 0);
-    for (range, count) in reason.ranges.iter().map(of).chain(more) {
+    let of = |range: &Range| (Some(*range), range.count());
+    let records = &reason.records;
+    let more = Some((None, records.more)).filter(|_| records.more > 0);
+    for (range, count) in records.ranges.iter().map(of).chain(more) {
         let row = Row::new("not complete").range(range).number("count", count);
         let row = match reason.why {
             Why::Unknown => row.text("reason", "a store at an unknown address".to_string()),

@@ -1,6 +1,7 @@
 //! Puts together what was seen in the blocks of a trace, and tells it.
 use super::answer::Answer;
 use super::block::{Look, Seen};
+use super::html::{Page, Picture};
 use super::reasons::Reasons;
 use super::rows::Over;
 use super::{rows, Ended};
@@ -16,12 +17,14 @@ pub(super) struct Teller {
     /// The watches that are full.
     before: Option<Answer>,
     reasons: Reasons,
+    picture: Option<Picture>,
 }
 
 impl Teller {
     pub(super) fn new(look: Look) -> Teller {
         Teller {
             watch: look.watch,
+            picture: Some(Picture::new(&look.watch)).filter(|_| look.pictured),
             look,
             from: 0,
             before: None,
@@ -49,7 +52,28 @@ impl Teller {
         for (record, why) in seen.unsure {
             self.reasons.add(record, why);
         }
+        if let Some(picture) = &mut self.picture {
+            for moment in seen.moments.iter().flatten() {
+                picture.add(moment);
+            }
+        }
         Ok(output.flush_much()?)
+    }
+
+    /// What was seen as a page, where one is wanted.
+    pub(super) fn page(&mut self, damages: u64) -> Option<Vec<u8>> {
+        let answer = self.answer();
+        let picture = self.picture.as_mut()?;
+        picture.end(answer.pairs);
+        let page = Page {
+            name: &self.look.name,
+            watch: &self.look.watch,
+            answer: &answer,
+            reasons: &self.reasons,
+            damages,
+            picture,
+        };
+        Some(page.bytes())
     }
 
     /// The answer over all watches so far.
@@ -64,7 +88,9 @@ impl Teller {
     }
 
     fn put_answer(&self, output: &mut Output, over: Over, answer: &Answer) {
-        let Look { kind, name, watch } = &self.look;
+        let Look {
+            kind, name, watch, ..
+        } = &self.look;
         rows::put_answer(&mut output.bytes, *kind, name, watch, over, answer);
     }
 
@@ -77,8 +103,12 @@ impl Teller {
                 Over::All
             }
         };
-        self.put_answer(output, over, &self.answer());
-        let Look { kind, name, .. } = &self.look;
+        let answer = self.answer();
+        self.put_answer(output, over, &answer);
+        let Look {
+            kind, name, watch, ..
+        } = &self.look;
+        rows::put_across(&mut output.bytes, *kind, name, watch, &answer);
         rows::put_reasons(&mut output.bytes, *kind, name, &self.reasons, damages);
         self.status()
     }

@@ -1,10 +1,11 @@
 //! What a watch says to people.
+use super::across::Across;
 use super::answer::Answer;
 use super::reasons::{Others, Reason, Why};
+use super::records;
 use super::touched::runs;
 use crate::format::{put, Kind};
 use crate::line::Place;
-use crate::number::Range;
 use machhurel::{opcode_name, Event, WATCH_PAIRS};
 
 fn many(n: u64, one: &str) -> String {
@@ -43,7 +44,11 @@ pub(super) fn put_answer(out: &mut Vec<u8>, over: &str, answer: &Answer) {
     let tally = &answer.tally;
     put!(out, "{over}, {}", many(answer.pairs, "pair"));
     if answer.pairs > 0 {
-        put!(out, ", {}", records(&[answer.records()], answer.pairs));
+        put!(
+            out,
+            ", {}",
+            records::words(&[answer.records()], answer.pairs)
+        );
     }
     put!(out, "\n  {} wrote part of it", many(tally.part, "store"));
     if let Some(record) = answer.first_part {
@@ -59,6 +64,10 @@ pub(super) fn put_answer(out: &mut Vec<u8>, over: &str, answer: &Answer) {
     put!(out, "\n  {} refused\n", many(answer.refused, "pair"));
 }
 
+pub(super) fn put_across(out: &mut Vec<u8>, across: &Across) {
+    put!(out, "warning: {across}\n");
+}
+
 pub(super) fn put_incomplete(out: &mut Vec<u8>) {
     put!(
         out,
@@ -66,21 +75,25 @@ pub(super) fn put_incomplete(out: &mut Vec<u8>) {
     );
 }
 
-pub(super) fn put_reason(out: &mut Vec<u8>, reason: &Reason) {
-    match reason.why {
-        Why::Unknown => put!(out, "  a store at an unknown address"),
+/// Why nobody can tell what a record did.
+pub(super) fn cause(why: &Why) -> String {
+    match why {
+        Why::Unknown => "a store at an unknown address".to_string(),
         Why::Refused(refused) => {
             let (refusal, opcode) = (refused.refusal, refused.opcode);
-            put!(out, "  refused {}, opcode {opcode}", refusal.number());
-            if let Some(name) = opcode_name(opcode) {
-                put!(out, ", {name}");
-            }
-            put!(out, ": {}", refusal.reason());
+            let name = opcode_name(opcode).map_or(String::new(), |name| format!(", {name}"));
+            let (number, reason) = (refusal.number(), refusal.reason());
+            format!("refused {number}, opcode {opcode}{name}: {reason}")
         }
     }
-    put!(out, ": {}", records(&reason.ranges, reason.records));
-    if reason.more > 0 {
-        put!(out, " and {} more", reason.more);
+}
+
+pub(super) fn put_reason(out: &mut Vec<u8>, reason: &Reason) {
+    let records = &reason.records;
+    let which = records::words(&records.ranges, records.count);
+    put!(out, "  {}: {which}", cause(&reason.why));
+    if records.more > 0 {
+        put!(out, " and {} more", records.more);
     }
     put!(out, "\n");
 }
@@ -91,18 +104,4 @@ pub(super) fn put_others(out: &mut Vec<u8>, others: &Others) {
         put!(out, ", the first in record {record}");
     }
     put!(out, "\n");
-}
-
-/// The records of these ranges: `records 0 to 3, 7`.
-fn records(ranges: &[Range], count: u64) -> String {
-    let word = |range: &Range| {
-        let last = range.to.saturating_sub(1);
-        match range.from == last {
-            true => last.to_string(),
-            false => format!("{} to {last}", range.from),
-        }
-    };
-    let words: Vec<String> = ranges.iter().map(word).collect();
-    let name = if count == 1 { "record" } else { "records" };
-    format!("{name} {}", words.join(", "))
 }

@@ -1,2 +1,2 @@
-pub mod Doubling
+pub mod Halves
 pub mod Addresses

@@ -1,32 +1,16 @@
 // Numbers of 64 bits, modulo two to the 64.
 ghost use mathlib.Core.Path.{_≡_};
-ghost use Prim.Native.Nat.{_+_, _*_, _%_, _^_, _<_};
+ghost use Prim.Native.Nat.{_*_, _%_, _^_};
 ghost use Rattle.definition.specs.Addresses.{signed32};
 
-// A number times a byte, by doubling: a bit of the byte at a time, until none is left.
+// A number times a byte, by its two halves of 32 bits: neither product overflows, and the upper is cut to 32 bits.
 pub fn times(a: u64, scale: u8) -> u64
     ensures { λ r. ⌜ r ≡ a * scale % 2 ^ 64 ⌝ }
 {
-    let mut product: u64 = 0;
-    let mut double = a;
-    let mut left = scale;
-    while 0 < left {
-        product = add_bit(product, double, left % 2);
-        double = std::num::wrapping_add_u64(double, double);
-        left = left / 2;
-    }
-    product
-}
-
-// The sum, with x only where the bit is set.
-fn add_bit(sum: u64, x: u64, bit: u8) -> u64
-    requires { ⌜ bit < 2 ⌝ }
-    ensures { λ r. ⌜ r ≡ (sum + x * bit) % 2 ^ 64 ⌝ }
-{
-    if bit == 0 {
-        return sum;
-    }
-    std::num::wrapping_add_u64(sum, x)
+    let k = scale as u64;
+    let low = a % 0x1_0000_0000 * k;
+    let high = a / 0x1_0000_0000 * k % 0x1_0000_0000;
+    std::num::wrapping_add_u64(low, high * 0x1_0000_0000)
 }
 
 // The low 32 bits, sign-extended.

@@ -3,6 +3,7 @@ pub mod Fronts
 pub mod Stable
 pub mod Walks
 pub mod Wholes
+pub mod Joined
 pub mod Cuts
 pub mod Bytes
 pub mod Round

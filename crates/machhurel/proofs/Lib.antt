@@ -1,4 +1,1 @@
-pub mod Counts
-pub mod Lengths
 pub mod Proved
-pub mod Kept

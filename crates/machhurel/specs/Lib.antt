@@ -1,3 +1,1 @@
-pub mod Answers
 pub mod Promises
-pub mod Words

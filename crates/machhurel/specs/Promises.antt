@@ -1,62 +1,26 @@
--- WHAT IS PROMISED of the numbers that the calls answer, each statement after its sentence. proofs/Proved.antt proves them all.
-use Prim.Native.Nat.{ℕ, _/_, _%_, _^_, _<_}
-use mathlib.Core.Path.{_≡_}
+-- WHAT IS PROMISED of the exported calls, each statement after its sentence. proofs/Proved.antt proves them all.
+use Prim.Native.Nat.{ℕ}
 use mathlib.Core.List.{List}
 use Rattle.laws.specs.Outcomes.{OneOutcome}
-use Rattle.access.specs.Exceptions.{infoNumber, infoVectors}
-use Rattle.access.specs.Privileges.{levelNumber}
-use Rattle.access.specs.declared.InfoAnswer.{InfoAnswer}
-use Rattle.digest.specs.Digests.{digestNumber, digestIn}
-use Rattle.digest.specs.declared.DigestAnswer.{DigestAnswer}
 use Rattle.event.specs.Counts.{countedOf}
-use Rattle.definition.specs.Behaviors.{digestCall, privilegeCall, exceptionsCall, privilegeNumber, privilegeIn}
+use Rattle.definition.specs.Behaviors.{digestCall, privilegeCall, exceptionsCall}
 use Rattle.definition.specs.Listings.{listingCall}
-use Rattle.definition.specs.Readings.{readAt, readingNumber}
-use Rattle.definition.specs.Visits.{visitOf, numberOf, opcodeOf, countOf}
-use Rattle.definition.specs.declared.Answer.{Answer}
-use Rattle.definition.specs.declared.PrivilegeAnswer.{PrivilegeAnswer}
-use Rattle.definition.specs.declared.Reading.{Reading}
-use Rattle.machhurel.specs.Answers.{packed, answerBits, digestBits, privilegeBits, exceptionBits, lengthFrom, eventBits}
+use Rattle.definition.specs.Readings.{readAt}
+use Rattle.definition.specs.Visits.{visitOf}
+use Rattle.difference.specs.Partings.{partedOf}
+use Rattle.session.specs.Sessions.{appended}
+use Rattle.session.specs.Words.{sessionIn, inWords, emptyWords}
+use Rattle.watching.specs.Traces.{newOf, stepOf}
+use Rattle.watching.specs.Verdicts.{variable, nameAt}
+use Rattle.answers.specs.Answers.{packed, digestBits, privilegeBits, exceptionBits, eventBits, differenceBits}
+use Rattle.watch_words.specs.Bits.{steppedBits, namingBits}
+use Rattle.watch_words.specs.Words.{watchIn, wordsOf, newWords}
 
--- a number of so many bits that starts at a bit
-abbrev pub bitsAt : ℕ → ℕ → ℕ → ℕ
-bitsAt place width v = v / 2 ^ place % 2 ^ width
-
--- THE ANSWER UNPACKS. Number, opcode and count are read back from the bits of an answer whose parts fit in them.
-abbrev pub AnswerUnpacks : Type 0
-AnswerUnpacks =
-    (a : Answer) → numberOf a < 2 ^ 8 → opcodeOf a < 2 ^ 16 → countOf a < 2 ^ 32
-    → (bitsAt 0 8 (answerBits a) ≡ numberOf a) × (bitsAt 8 16 (answerBits a) ≡ opcodeOf a) × (bitsAt 32 32 (answerBits a) ≡ countOf a)
-
--- So are the parts of the other answers.
-abbrev pub DigestUnpacks : Type 0
-DigestUnpacks =
-    (a : DigestAnswer) → digestNumber a < 2 ^ 8 → digestIn a .behavior < 2 ^ 8 → digestIn a .operands < 2 ^ 8 → digestIn a .extra < 2 ^ 16
-    → (bitsAt 0 8 (digestBits a) ≡ digestNumber a)
-    × (bitsAt 8 8 (digestBits a) ≡ digestIn a .behavior)
-    × (bitsAt 16 8 (digestBits a) ≡ digestIn a .operands)
-    × (bitsAt 32 16 (digestBits a) ≡ digestIn a .extra)
-
-abbrev pub PrivilegeUnpacks : Type 0
-PrivilegeUnpacks =
-    (a : PrivilegeAnswer) → privilegeNumber a < 2 ^ 8
-    → (bitsAt 0 8 (privilegeBits a) ≡ privilegeNumber a) × (bitsAt 8 8 (privilegeBits a) ≡ levelNumber (privilegeIn a))
-
-abbrev pub ExceptionsUnpack : Type 0
-ExceptionsUnpack =
-    (a : InfoAnswer) → infoNumber a < 2 ^ 8 → infoVectors a < 2 ^ 32
-    → (bitsAt 0 8 (exceptionBits a) ≡ infoNumber a) × (bitsAt 32 32 (exceptionBits a) ≡ infoVectors a)
-
-abbrev pub EventUnpacks : Type 0
-EventUnpacks =
-    (place : ℕ) (r : Reading) → readingNumber r < 2 ^ 8 → lengthFrom place r < 2 ^ 32
-    → (bitsAt 0 8 (eventBits place r) ≡ readingNumber r) × (bitsAt 32 32 (eventBits place r) ≡ lengthFrom place r)
-
--- ONE OUTCOME. Any two outcomes that the contract of an exported call allows are equal: the number and every byte lent. So are those
--- of the count of a log's events.
+-- ONE OUTCOME. Any two outcomes that the contract of an exported call allows are equal: the number, every byte lent and every word kept.
+-- So are those of the count of a log's events.
 abbrev pub EveryExportDetermined : Type 0
 EveryExportDetermined =
-    (b f p : List ℕ) (s : ℕ)
+    (b f p words : List ℕ) (s address length : ℕ)
     → OneOutcome (packed (visitOf b f p s))
     × OneOutcome (packed (listingCall b p s))
     × OneOutcome (digestBits (digestCall b))
@@ -64,3 +28,9 @@ EveryExportDetermined =
     × OneOutcome (exceptionBits (exceptionsCall b))
     × OneOutcome (eventBits s (readAt p s))
     × OneOutcome (countedOf p)
+    × OneOutcome {A = ℕ × ℕ} (differenceBits (partedOf f p), partedOf f p .at)
+    × OneOutcome (newWords (newOf address length) words)
+    × OneOutcome {A = ℕ × List ℕ} (steppedBits (stepOf (watchIn words) (b, f)), wordsOf (stepOf (watchIn words) (b, f) .watch))
+    × OneOutcome (namingBits s (nameAt (variable address length) p s))
+    × OneOutcome (inWords (appended b f (sessionIn words, p)))
+    × OneOutcome emptyWords

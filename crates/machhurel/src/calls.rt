@@ -1,58 +1,52 @@
 // The C interface: include/machhurel.h says it in C's words.
-use definition::Reading;
 ghost use mathlib.Core.Path.{_≡_};
 ghost use Rattle.definition.specs.Behaviors.{digestCall, privilegeCall, exceptionsCall};
 ghost use Rattle.definition.specs.Listings.{listingCall};
 ghost use Rattle.definition.specs.Readings.{readAt};
 ghost use Rattle.definition.specs.Visits.{visitOf};
-ghost use Rattle.machhurel.specs.Answers.{packed, digestBits, privilegeBits, exceptionBits, eventBits, differenceBits};
+ghost use Rattle.answers.specs.Answers.{packed, digestBits, privilegeBits, exceptionBits, eventBits, differenceBits};
 ghost use Rattle.difference.specs.Partings.{partedOf};
 
 #[no_mangle]
 pub extern "C" fn machhurel_visit(bytes: &[u8], file: &[u8], log: &mut [u8], start: usize) -> u64
     ensures { λ r. ⌜ (r, now (log .exit)) ≡ packed (visitOf (now (bytes .entry)) (now (file .entry)) (now (log .entry)) start) ⌝ }
 {
-    crate::bits::answer_bits(visiting::visit_accesses(bytes, file, log, start))
+    answers::answer_bits(visiting::visit_accesses(bytes, file, log, start))
 }
 
 #[no_mangle]
 pub extern "C" fn machhurel_listing(bytes: &[u8], out: &mut [u8], start: usize) -> u64
     ensures { λ r. ⌜ (r, now (out .exit)) ≡ packed (listingCall (now (bytes .entry)) (now (out .entry)) start) ⌝ }
 {
-    crate::bits::answer_bits(listing::list_operands(bytes, out, start))
+    answers::answer_bits(listing::list_operands(bytes, out, start))
 }
 
 #[no_mangle]
 pub extern "C" fn machhurel_digest(bytes: &[u8]) -> u64
     ensures { λ r. ⌜ r ≡ digestBits (digestCall (now (bytes .entry))) ⌝ }
 {
-    crate::bits::digest_bits(fixups::digest_answer(bytes))
+    answers::digest_bits(fixups::digest_answer(bytes))
 }
 
 #[no_mangle]
 pub extern "C" fn machhurel_privilege(bytes: &[u8]) -> u64
     ensures { λ r. ⌜ r ≡ privilegeBits (privilegeCall (now (bytes .entry))) ⌝ }
 {
-    crate::bits::privilege_bits(fixups::privilege_answer(bytes))
+    answers::privilege_bits(fixups::privilege_answer(bytes))
 }
 
 #[no_mangle]
 pub extern "C" fn machhurel_exceptions(bytes: &[u8]) -> u64
     ensures { λ r. ⌜ r ≡ exceptionBits (exceptionsCall (now (bytes .entry))) ⌝ }
 {
-    crate::bits::exception_bits(fixups::exceptions_answer(bytes))
+    answers::exception_bits(fixups::exceptions_answer(bytes))
 }
 
 #[no_mangle]
 pub extern "C" fn machhurel_event(log: &[u8], at: usize) -> u64
     ensures { λ r. ⌜ r ≡ eventBits at (readAt (now (log .entry)) at) ⌝ }
 {
-    let found = event::read_event(log, at);
-    match found {
-        Reading::Found(_, next) => ((next - at) as u64) * 0x1_0000_0000,
-        Reading::Bad(number) => number as u64,
-        Reading::Finished => 255,
-    }
+    answers::event_bits(log, at)
 }
 
 #[no_mangle]
@@ -62,5 +56,5 @@ pub extern "C" fn machhurel_difference(first: &[u8], second: &[u8], at: &mut u64
 {
     let parted = difference::part_logs(first, second);
     *at = parted.at as u64;
-    crate::bits::difference_bits(parted)
+    answers::difference_bits(parted)
 }

@@ -1,6 +1,7 @@
-// What users call: every call takes bytes and answers one number, whose bits specs/Answers.antt names. No call requires anything.
-mod bits; // bits.rt: which bits of an answer hold what
+// What users call: every call takes bytes and answers one number, whose bits crate answers names. No call requires anything.
 mod calls; // calls.rt: the calls on a record and on a log, exported as C
+mod readers; // readers.rt: the calls on a reader of a stream, whose words a C caller keeps
+mod sessions; // sessions.rt: the calls on a log session, whose words a C caller keeps
 mod watches; // watches.rt: the calls on a watch, whose words a C caller keeps
 
 pub use calls::machhurel_difference;
@@ -10,6 +11,11 @@ pub use calls::machhurel_exceptions;
 pub use calls::machhurel_listing;
 pub use calls::machhurel_privilege;
 pub use calls::machhurel_visit;
+pub use readers::machhurel_reader_close;
+pub use readers::machhurel_reader_new;
+pub use readers::machhurel_reader_read;
+pub use sessions::machhurel_append;
+pub use sessions::machhurel_reset;
 pub use watches::machhurel_verdict;
 pub use watches::machhurel_watch_new;
 pub use watches::machhurel_watch_step;

@@ -4,7 +4,9 @@ use native.Mathlib.Omega.{arith}
 use mathlib.Core.Path.{_≡_, refl, sym, ap, _∙_}
 use mathlib.Core.List.{List, [], _∷_, _++_}
 use mathlib.Core.Bool.{Bool, true, false, not, cond}
+use borrow.Author.Tests.{ne-eqb}
 use lib.ListN.{length}
+use lib.Dec.{eqb}
 use Rattle.laws.specs.Lending.{lacksRoom}
 use Rattle.laws.specs.Tests.{firstOf}
 use Rattle.laws.proofs.Every.{Every}
@@ -18,11 +20,11 @@ use Rattle.definition.specs.Refusals.{nameless, sizeless, noRoom}
 use Rattle.definition.specs.Visits.{fixedRecord, logOf, refusalOf, outcome, visitBy}
 use Rattle.definition.specs.Listings.{listingOf, listingRefusal, listingCall}
 use Rattle.definition.specs.declared.Answer.{Answer}
-use Rattle.definition.specs.declared.Answer.the-variants.{Done, Short}
+use Rattle.definition.specs.declared.Answer.the-variants.{Done, Refused, Complex, Short}
 use Rattle.definition.proofs.Bounds.{log-bytes}
 use Rattle.definition.proofs.ListingBound.{listing-bytes}
 use Rattle.definition.proofs.Outcomes.{refused-short}
-use Rattle.promises.specs.Calls.{Retried}
+use Rattle.promises.specs.Calls.{Retried, unroomed}
 use Rattle.promises.proofs.Outcomes.{short-is}
 
 -- A table that ends in 7, and gives it nowhere else
@@ -107,3 +109,43 @@ listing-retried b p s n e =
     let l = listingOf (fixedRecord b) in
     let d = short-is (listingRefusal b p s) (recordOf b .opcode) l p s n e in
     rw (d .1) (retried (listingTests b) (recordOf b .opcode) l (listing-others b) (noRoom (length l) p s) (d .0), listing-bytes (fixedRecord b))
+
+-- From a start past the end a call answers what it would answer with room, but for 7 in place of its bytes
+abbrev Firm : Bool × ℕ → Type 0
+Firm t = (t .1 ≡ 0 → ⊥) × (t .1 ≡ 7 → ⊥)
+
+past-end :
+    (ts : List (Bool × ℕ)) (o : ℕ) (l : List ℕ) → Every Firm ts → (p q : List ℕ) (s t : ℕ)
+    → outcome (firstOf (ts ++ ((true, 7) ∷ []))) o l p s .0 ≡ unroomed (outcome (firstOf (ts ++ ((false, 7) ∷ []))) o l q t .0)
+unfolding firstOf outcome
+past-end [] o l h p q s t = refl
+past-end ((true, n) ∷ ts) o l h p q s t = rw (ne-eqb n 0 (h .0 .0), ne-eqb n 7 (h .0 .1)) (same (eqb n 4))
+  where
+    same : (u : Bool) → cond {A = Answer × List ℕ} u (Complex o, p) (Refused n, p) .0 ≡ unroomed (cond {A = Answer × List ℕ} u (Complex o, q) (Refused n, q) .0)
+    same true = refl
+    same false = refl
+past-end ((false, n) ∷ ts) o l h p q s t = past-end ts o l (h .1) p q s t
+
+past-end-full : (n : ℕ) (p : List ℕ) (s : ℕ) → length p < s → noRoom n p s ≡ true
+unfolding noRoom
+past-end-full n p s h = lacks-room n s (length p) (omega arith)
+
+pub visit-past-end :
+    (bad : Bool) (b : List ℕ) (f : RegisterFile) (p q : List ℕ) (s t : ℕ) → length p < s → t + mostBytes ≤ length q
+    → visitBy bad b f p s .0 ≡ unroomed (visitBy bad b f q t .0)
+unfolding visitBy refusalOf
+visit-past-end bad b f p q s t past room =
+    rw (past-end-full (length (bytesOf (logOf b f))) p s past, room-enough b f q t room)
+    (past-end (visitTests bad b) (recordOf b .opcode) (bytesOf (logOf b f)) firm p q s t)
+  where
+    firm : Every Firm (visitTests bad b)
+    firm = (
+      ((λ e. omega arith), (λ e. omega arith)),
+      (
+        ((λ e. omega arith), (λ e. omega arith)),
+        (
+          ((λ e. omega arith), (λ e. omega arith)),
+          (((λ e. omega arith), (λ e. omega arith)), (((λ e. omega arith), (λ e. omega arith)), (((λ e. omega arith), (λ e. omega arith)), tt))),
+        ),
+      ),
+    )

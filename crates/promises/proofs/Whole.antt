@@ -1,5 +1,6 @@
 -- What a visit wrote reads back as its events, and all else in the buffer stays. Assumes nothing.
-use Prim.Native.Nat.{ℕ, _+_}
+use Prim.Native.Nat.{ℕ, _+_, _≤_}
+use native.Mathlib.Omega.{arith}
 use native.Mathlib.Nat.{add-assoc, add-zero}
 use mathlib.Core.Path.{_≡_, sym, ap, _∙_}
 use mathlib.Core.List.{List, [], _∷_, _++_, append-assoc}
@@ -10,6 +11,7 @@ use lib.Seq.{drop-drop, drop-append-seam}
 use Rattle.laws.specs.Lists.{each}
 use Rattle.laws.specs.Lending.{splice}
 use Rattle.laws.proofs.Every.{Every, first-zero}
+use Rattle.laws.proofs.Room.{starts-inside, has-left}
 use Rattle.registers.specs.Files.{fileOf, isFile}
 use Rattle.registers.specs.declared.RegisterFile.{RegisterFile}
 use Rattle.record.specs.Records.{isRecord, recordOf, outside}
@@ -77,6 +79,14 @@ module _ (bad : Bool) (b : List ℕ) (f : RegisterFile) (p : List ℕ) (s n : �
 
   pub visit-written : Written (bytesOf (logOf b f)) p new s n
   visit-written = rw (visit-done .1, visit-done .2) (spliced (bytesOf (logOf b f)) p s (visit-tests .1 .1 .1 .1 .1 .1 .0))
+
+  -- within the buffer
+  pub visit-inside : s + n ≤ length p
+  unfolding noRoom
+  visit-inside =
+      let m = length (bytesOf (logOf b f)) in
+      let room = visit-tests .1 .1 .1 .1 .1 .1 .0 in
+      omega (arith, visit-done .1, starts-inside m s (length p) room, has-left m s (length p) room)
 
   log-good : Every GoodEvent (logOf b f)
   unfolding logOf

@@ -27,6 +27,13 @@ Retried call n =
     → (t + n ≤ length q → call q t .0 ≡ Done n)
     × (length q < t + n → call q t ≡ (Short n, q))
 
+-- what becomes of the answer of a call that has room where it has none: the bytes that it would write are those needed
+abbrev pub unroomed : Answer → Answer
+unroomed (Done n) = Short n
+unroomed (Refused k) = Refused k
+unroomed (Complex o) = Complex o
+unroomed (Short n) = Short n
+
 -- Two outcomes, each an answer and a buffer: the one over the buffer p from s, whose events are ds, the other over q from t, whose
 -- events are es. Both refuse with the same answer and leave the buffers, or both write their events, and the second refine the first.
 pub data Alike (one two : Answer × List ℕ) (p q : List ℕ) (s t : ℕ) (ds es : List Event) : Type 0 where

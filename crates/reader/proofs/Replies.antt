@@ -1,19 +1,15 @@
 -- What a call answers, from what visiting answered. Assumes nothing.
 use Prim.Native.Nat.{ℕ, _+_, _-_, _^_, _≤_, _<_}
-use native.Mathlib.Omega.{arith}
 use mathlib.Core.Path.{_≡_, refl, sym, ap, _∙_, subst}
 use mathlib.Core.List.{List, []}
-use mathlib.Core.Bool.{Bool, true, false, not, cond}
+use mathlib.Core.Bool.{true, not}
 use lib.ListN.{length, take}
-use lib.Dec.{eqb}
 use Rattle.laws.specs.Lending.{splice}
-use Rattle.laws.proofs.Choice.{either}
 use Rattle.registers.specs.Files.{fileOf, isFile}
-use Rattle.registers.specs.declared.RegisterFile.{RegisterFile}
 use Rattle.definition.specs.Limits.{mostBytes}
-use Rattle.definition.specs.Visits.{fixedRecord, logOf, refusalOf, outcome, visitBy, visitOf, numberOf, opcodeOf, countOf}
+use Rattle.definition.specs.Visits.{visitOf, numberOf, opcodeOf, countOf}
 use Rattle.definition.specs.declared.Answer.{Answer}
-use Rattle.definition.proofs.Bounds.{log-bytes}
+use Rattle.answers.proofs.Counts.{visit-fits}
 use Rattle.streams.specs.Cuts.{reader, Fed, waits, says, stops}
 use Rattle.streams.specs.Streams.{Said, saidAt, recordSays, StreamReader, Outcome, finishing, unfinished, outcomeOf}
 use Rattle.streams.proofs.Driving.{Leaves, visit-leaves, splice-nothing}
@@ -26,21 +22,9 @@ use Rattle.reader.specs.declared.items.Brought.{Brought}
 use Rattle.reader.specs.declared.items.Brought.the-variants.{Nothing, Unknown, BadFile, Record}
 use Rattle.reader.specs.declared.items.Taking.{Taking}
 
--- a count that fits its bits
-abbrev Small : Answer × List ℕ → Type 0
-Small o = countOf (o .0) < 2 ^ 32
-
-visit-small : (bad : Bool) (b : List ℕ) (f : RegisterFile) (p : List ℕ) (s : ℕ) → Small (visitBy bad b f p s)
-unfolding visitBy outcome logOf
-visit-small bad b f p s =
-    let h = log-bytes f (fixedRecord b) in
-    let k = refusalOf bad b f p s in
-    either Small (eqb k 0) _ _ (λ t. omega (arith, h))
-    (λ t. either Small (eqb k 4) _ _ (λ u. omega arith) (λ u. either Small (eqb k 7) _ _ (λ v. omega (arith, h)) (λ v. omega arith)))
-
 module _ (f b p : List ℕ) (s : ℕ) {a : Answer} {q : List ℕ} (e : (a, q) ≡ visitOf b f p s) where
   pub count-small : countOf a < 2 ^ 32
-  count-small = subst Small (sym e) (visit-small (not (isFile f)) b (fileOf f) p s)
+  count-small = visit-fits (not (isFile f)) b (fileOf f) p s e
 
   -- with room for every log, what visiting answered and left is what the record says
   pub visit-replies :

@@ -15,21 +15,25 @@ pub fn section(title: &str) -> Vec<&'static str> {
         .collect()
 }
 
-/// The rows of a section's table whose first cell is a number, as cells.
-pub fn rows(title: &str) -> Vec<Vec<&'static str>> {
+/// The rows of a section's tables that are wanted, as cells.
+pub fn table(title: &str, wanted: impl Fn(&[&str]) -> bool) -> Vec<Vec<&'static str>> {
     let cells = |line: &'static str| {
         line.trim_matches('|')
             .split('|')
             .map(str::trim)
             .collect::<Vec<_>>()
     };
-    let is_row = |row: &Vec<&str>| row[0].parse::<u8>().is_ok();
     section(title)
         .into_iter()
         .filter(|line| line.starts_with('|'))
         .map(cells)
-        .filter(is_row)
+        .filter(|row| wanted(row))
         .collect()
+}
+
+/// The rows of a section's table whose first cell is a number.
+pub fn rows(title: &str) -> Vec<Vec<&'static str>> {
+    table(title, |row| row[0].parse::<u8>().is_ok())
 }
 
 pub fn number(text: &str) -> u64 {

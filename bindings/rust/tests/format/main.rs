@@ -1,8 +1,12 @@
-//! docs/FORMAT.md, run: its tables of fields, banks, specs, fix-ups, lists and events, and its worked instruction.
+//! docs/FORMAT.md, run: its tables of fields, banks, specs, fix-ups, lists, events, items and answers, and its worked instruction.
+mod answers;
 mod banks;
+#[path = "../common/mod.rs"]
+mod common;
 mod document;
 mod fields;
 mod fix_ups;
+mod items;
 mod lists;
 mod names;
 mod specs;

@@ -1,5 +1,5 @@
 use mathlib.Core.Path.{ap, _∙_}
-use Rattle.machhurel.specs.Answers.{differenceBits}
+use Rattle.answers.specs.Answers.{differenceBits}
 use Rattle.difference.specs.declared.logs.Parted.{Parted}
 use borrow.Author.Needs.{needs}
 use Rattle.machhurel.proofs.calls.machhurel_difference.Statement.{statement}

@@ -1,7 +1,7 @@
 use mathlib.Core.Path.{ap}
 use borrow.Author.Needs.{needs}
-use Rattle.machhurel.specs.Answers.{packed}
-use Rattle.machhurel.proofs.Counts.{listing-fits}
+use Rattle.answers.specs.Answers.{packed}
+use Rattle.answers.proofs.Counts.{listing-fits}
 use Rattle.machhurel.proofs.calls.machhurel_listing.Statement.{statement}
 use Rattle.machhurel.proofs.calls.machhurel_listing.Tie as tie
 

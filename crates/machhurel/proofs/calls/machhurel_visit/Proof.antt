@@ -1,7 +1,7 @@
 use mathlib.Core.Path.{ap}
 use borrow.Author.Needs.{needs}
-use Rattle.machhurel.specs.Answers.{packed}
-use Rattle.machhurel.proofs.Counts.{visit-fits}
+use Rattle.answers.specs.Answers.{packed}
+use Rattle.answers.proofs.Counts.{visit-fits}
 use Rattle.machhurel.proofs.calls.machhurel_visit.Statement.{statement}
 use Rattle.machhurel.proofs.calls.machhurel_visit.Tie as tie
 

@@ -1,0 +1,4 @@
+pub mod Sessions
+pub mod Words
+pub mod Rows
+pub mod Promises
