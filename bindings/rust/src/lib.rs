@@ -47,6 +47,7 @@ mod refusal;
 mod register;
 mod session;
 mod spec;
+mod stream;
 mod watch;
 
 pub use access::Access;
@@ -66,6 +67,7 @@ pub use refusal::{Refusal, RefusedRecord};
 pub use register::{bank_name, Register, BANK_COUNT};
 pub use session::Session;
 pub use spec::Spec;
+pub use stream::{End, Handed, Reader, Told};
 pub use watch::{verdict, Named, Names, Step, Tally, Verdict, Watch, WATCH_PAIRS};
 
 /// The bytes of a record.
