@@ -175,14 +175,17 @@ words-are-kept r s hk hf =
     let e : toldBy (wordsOf r) ≡ r = ap toldBy (words-are r) ∙ told-is r s hk hf in
     rw (e, same-as-itself (wordsOf r) readerWords)
 
+by-last : (v w : List ℕ) (n i : ℕ) → eqb (getD v n 0) (getD w n 0) ≡ true → i < suc n → (i < n → getD v i 0 ≡ getD w i 0) → getD v i 0 ≡ getD w i 0
+by-last v w n i h l rest = go (eqb i n) refl
+  where
+    go : (t : Bool) → eqb i n ≡ t → getD v i 0 ≡ getD w i 0
+    go true e = let z : i ≡ n = eqb-true i n e in rw z (eqb-true (getD v n 0) (getD w n 0) h)
+    go false e = rest (omega (arith, eqb-false i n e))
+
 one-by-one : (v w : List ℕ) (n : ℕ) → sameWords v w n ≡ true → (i : ℕ) → i < n → getD v i 0 ≡ getD w i 0
 unfolding sameWords
 one-by-one v w zero h i l = absurd (omega arith)
-one-by-one v w (suc n) h i l = go (eqb i n) refl
-  where
-    go : (t : Bool) → eqb i n ≡ t → getD v i 0 ≡ getD w i 0
-    go true e = let z : i ≡ n = eqb-true i n e in rw z (eqb-true (getD v n 0) (getD w n 0) (and-right (sameWords v w n) _ h))
-    go false e = one-by-one v w n (and-left (sameWords v w n) _ h) i (omega (arith, eqb-false i n e))
+one-by-one v w (suc n) h i l = by-last v w n i (and-right (sameWords v w n) _ h) l (λ k. one-by-one v w n (and-left _ _ h) i k)
 
 pub other-words-stop : promised.OtherWordsStop
 unfolding readerBy
