@@ -328,10 +328,7 @@ fn the_traps_of_the_request() {
     assert_eq!(read(&mut words, &last, ENOUGH), (a_log, 181));
     assert_eq!(read(&mut words, &last[181..], ENOUGH), (1, 0));
     let mut words = fresh();
-    assert_eq!(
-        read(&mut words, &cat(&[&good, &[0xFF]]), ENOUGH),
-        (1, 141)
-    );
+    assert_eq!(read(&mut words, &cat(&[&good, &[0xFF]]), ENOUGH), (1, 141));
     // the kept bytes stay on 7
     let mut words = fresh();
     assert_eq!(
