@@ -10,6 +10,8 @@ use Rattle.definition.specs.Visits.{visitOf}
 use Rattle.difference.specs.Partings.{partedOf}
 use Rattle.session.specs.Sessions.{appended}
 use Rattle.session.specs.Words.{sessionIn, inWords, emptyWords}
+use Rattle.reader.specs.Held.{handedTo}
+use Rattle.reader_words.specs.Words.{readerBy, handedWords, freshWords, closedWords}
 use Rattle.watching.specs.Traces.{newOf, stepOf}
 use Rattle.watching.specs.Verdicts.{variable, nameAt}
 use Rattle.answers.specs.Answers.{packed, digestBits, privilegeBits, exceptionBits, eventBits, differenceBits}
@@ -34,3 +36,6 @@ EveryExportDetermined =
     × OneOutcome (namingBits s (nameAt (variable address length) p s))
     × OneOutcome (inWords (appended b f (sessionIn words, p)))
     × OneOutcome emptyWords
+    × OneOutcome freshWords
+    × OneOutcome (handedWords (handedTo (readerBy words) b p s))
+    × OneOutcome (closedWords (readerBy words))

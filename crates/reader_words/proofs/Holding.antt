@@ -14,7 +14,7 @@ use Rattle.reader.specs.Chunks.{Kept}
 use Rattle.reader.specs.declared.chunks.Reader.{Reader}
 use Rattle.reader.specs.declared.chunks.Reply.{Reply}
 use Rattle.reader.proofs.Sound.{none, nothing-held}
-use Rattle.reader_words.specs.Words.{readerWords, placeWords, bytesIn, wordsIn, wordsOf, numbersIn, toldBy, sameWords, readerBy, callBits, Placed, Answered}
+use Rattle.reader_words.specs.Words.{readerWords, placeWords, bytesIn, wordsIn, wordsOf, numbersIn, toldBy, sameWords, readerBy, callBits, Placed, handedWords}
 use Rattle.reader_words.proofs.Packing.{bytes-long}
 
 pub place-long : (w : List ℕ) (from : ℕ) → length (bytesIn w from) ≡ itemRoom
@@ -50,11 +50,5 @@ fresh-words = refl
 -- what a call leaves, from the reply and what was left in the places
 pub answered :
     (a : Reply) (item file log : List ℕ) (h : Handed) → leftBy a item file log ≡ h → (r : ℕ) (w : List ℕ)
-    → r ≡ callBits (a .call) → w ≡ wordsOf (readerWith (a .reader) item file) → Answered r (a .call .taken) w log h
-answered a item file log h e r w b o =
-    record {
-      bits = b ∙ ap (λ (x : Handed). callBits (x .call)) e;
-      taken = ap (λ (x : Handed). x .call .taken) e;
-      words = o ∙ ap (λ (x : Handed). wordsOf (x .next)) e;
-      log = ap (λ (x : Handed). x .buffer) e;
-    }
+    → r ≡ callBits (a .call) → w ≡ wordsOf (readerWith (a .reader) item file) → (r, a .call .taken, w, log) ≡ handedWords h
+answered a item file log h e r w b o = rw (b, o) (ap handedWords e)

@@ -10,7 +10,7 @@ use Rattle.laws.specs.Words.{little}
 use Rattle.registers.specs.Files.{numbersFrom}
 use Rattle.answers.specs.Answers.{at}
 use Rattle.streams.specs.Cuts.{halted}
-use Rattle.streams.specs.Streams.{StreamReader}
+use Rattle.streams.specs.Streams.{StreamReader, fresh, close}
 use Rattle.streams.specs.declared.Call.{Call}
 use Rattle.reader.specs.Held.{itemRoom, readerIn, Handed}
 use Rattle.reader.specs.declared.chunks.Reader.{Reader}
@@ -65,9 +65,14 @@ pub record Placed (r : Reader) (item file : List ℕ) : Type 0 where
   pub kept : r .kept ≤ itemRoom
   pub held : r .file ≤ itemRoom
 
--- what a call leaves: the number, the bytes taken, the reader's words and the log buffer
-pub record Answered (r t : ℕ) (w l : List ℕ) (h : Handed) : Type 0 where
-  pub bits : r ≡ callBits (h .call)
-  pub taken : t ≡ h .call .taken
-  pub words : w ≡ wordsOf (h .next)
-  pub log : l ≡ h .buffer
+-- what a call leaves: its number, the bytes taken, the reader's words and the log buffer
+abbrev pub handedWords : Handed → ℕ × ℕ × List ℕ × List ℕ
+handedWords h = (callBits (h .call), h .call .taken, wordsOf (h .next), h .buffer)
+
+-- what making a new reader answers, and its words
+abbrev pub freshWords : ℕ × List ℕ
+freshWords = (0, wordsOf fresh)
+
+-- what closing answers, and the words that it leaves
+abbrev pub closedWords : StreamReader → ℕ × List ℕ
+closedWords r = (close r .0, wordsOf (close r .1))

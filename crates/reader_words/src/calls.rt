@@ -6,9 +6,8 @@ use reader::ITEM_ROOM;
 use streams::Call;
 ghost use mathlib.Core.Path.{_≡_};
 ghost use Prim.Native.Nat.{_^_, _<_};
-ghost use Rattle.streams.specs.Streams.{fresh, close};
 ghost use Rattle.reader.specs.Held.{handedTo};
-ghost use Rattle.reader_words.specs.Words.{readerBy, wordsOf, callBits, Answered};
+ghost use Rattle.reader_words.specs.Words.{readerBy, callBits, handedWords, freshWords, closedWords};
 
 fn call_bits(call: Call) -> u64
     requires { ⌜ call .n < 2 ^ 32 ⌝ }
@@ -22,7 +21,7 @@ fn call_bits(call: Call) -> u64
 }
 
 pub fn new_words(reader: &mut [u64; 48]) -> u64
-    ensures { λ r. ⌜ (r ≡ 0) × (now (reader .exit) ≡ wordsOf fresh) ⌝ }
+    ensures { λ r. ⌜ (r, now (reader .exit)) ≡ freshWords ⌝ }
 {
     *reader = [0; 48];
     0
@@ -35,8 +34,8 @@ pub fn read_words(
     start: usize,
     taken: &mut u64,
 ) -> u64
-    ensures { λ r. ⌜ Answered r (now (taken .exit)) (now (reader .exit)) (now (log .exit))
-        (handedTo (readerBy (now (reader .entry))) (now (chunk .entry)) (now (log .entry)) start) ⌝ }
+    ensures { λ r. ⌜ (r, now (taken .exit), now (reader .exit), now (log .exit))
+        ≡ handedWords (handedTo (readerBy (now (reader .entry))) (now (chunk .entry)) (now (log .entry)) start) ⌝ }
 {
     let mut item = [0u8; ITEM_ROOM];
     unpack(reader, 0, &mut item);
@@ -52,7 +51,7 @@ pub fn read_words(
 }
 
 pub fn close_words(reader: &mut [u64; 48]) -> u64
-    ensures { λ r. ⌜ (r ≡ close (readerBy (now (reader .entry))) .0) × (now (reader .exit) ≡ wordsOf (close (readerBy (now (reader .entry))) .1)) ⌝ }
+    ensures { λ r. ⌜ (r, now (reader .exit)) ≡ closedWords (readerBy (now (reader .entry))) ⌝ }
 {
     let mut item = [0u8; ITEM_ROOM];
     unpack(reader, 0, &mut item);

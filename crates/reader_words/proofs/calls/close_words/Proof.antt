@@ -1,7 +1,9 @@
+use Prim.Native.Nat.{ℕ}
+use mathlib.Core.List.{List}
 use Rattle.reader_words.proofs.Holding.{fresh-words}
 use Rattle.streams.specs.Streams.{StreamReader, close}
 use Rattle.streams.specs.Cuts.{closingOf}
-use mathlib.Core.Path.{ap, _∙_}
+use mathlib.Core.Path.{ap, ap₂, _∙_}
 use borrow.Author.Needs.{needs}
 use Rattle.reader_words.proofs.calls.close_words.Statement.{statement}
 use Rattle.reader_words.proofs.calls.close_words.Tie as tie
@@ -46,7 +48,7 @@ cast-result c = search needs
 
 returns : tie.Need-returns
 unfolding close
-returns c = (c .before .close-reader .ensures ∙ ap (λ (x : StreamReader). closingOf x) (c .before .before .before .before .reader-in .ensures), fresh-words)
+returns c = ap₂ (λ (k : ℕ) (w : List ℕ). (k, w)) (c .before .close-reader .ensures ∙ ap (λ (x : StreamReader). closingOf x) (c .before .before .before .before .reader-in .ensures)) fresh-words
 
 pub close-words-spec : {M : Type 1} → statement M
 close-words-spec =

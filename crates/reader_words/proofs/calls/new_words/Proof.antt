@@ -1,12 +1,14 @@
+use Prim.Native.Nat.{ℕ}
+use mathlib.Core.List.{List}
+use mathlib.Core.Path.{ap}
 use Rattle.reader_words.proofs.Holding.{fresh-words}
-use mathlib.Core.Path.{refl}
 use Rattle.reader_words.proofs.calls.new_words.Statement.{statement}
 use Rattle.reader_words.proofs.calls.new_words.Tie as tie
 use Rattle.reader_words.proofs.calls.new_words.Reads as reads
 use Rattle.reader_words.proofs.calls.new_words.Lts as lts
 
 returns : tie.Need-returns
-returns c = (refl, fresh-words)
+returns c = ap (λ (w : List ℕ). (0, w)) fresh-words
 
 pub new-words-spec : {M : Type 1} → statement M
 new-words-spec = tie.close (tie.spec returns)
