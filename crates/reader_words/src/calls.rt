@@ -1,4 +1,5 @@
 // The calls of a reader over its words. Crate machhurel exports them as C.
+use crate::places::PLACE_WORDS;
 use crate::places::unpack;
 use crate::words::reader_in;
 use crate::words::words_of;
@@ -40,7 +41,7 @@ pub fn read_words(
     let mut item = [0u8; ITEM_ROOM];
     unpack(reader, 0, &mut item);
     let mut file = [0u8; ITEM_ROOM];
-    unpack(reader, 20, &mut file);
+    unpack(reader, PLACE_WORDS, &mut file);
     let held = reader_in(reader, &item, &file);
     let reply = reader::read_chunk(held, &mut item, &mut file, chunk, log, start);
     let after = reply.reader;
@@ -56,7 +57,7 @@ pub fn close_words(reader: &mut [u64; 48]) -> u64
     let mut item = [0u8; ITEM_ROOM];
     unpack(reader, 0, &mut item);
     let mut file = [0u8; ITEM_ROOM];
-    unpack(reader, 20, &mut file);
+    unpack(reader, PLACE_WORDS, &mut file);
     let held = reader_in(reader, &item, &file);
     let number = reader::close_reader(held, &item, &file);
     *reader = [0; 48];

@@ -1,4 +1,5 @@
 // A reader as the words that a C caller keeps.
+use crate::places::PLACE_WORDS;
 use crate::places::pack_front;
 use reader::Reader;
 ghost use mathlib.Core.Path.{_≡_};
@@ -23,7 +24,7 @@ pub fn words_of(r: Reader, item: &[u8], file: &[u8]) -> [u64; 48]
     let held = r.file;
     let mut words = [0u64; 48];
     pack_front(&mut words, 0, item, kept);
-    pack_front(&mut words, 20, file, held);
+    pack_front(&mut words, PLACE_WORDS, file, held);
     words[40] = kept as u64;
     words[41] = held as u64;
     words[42] = bit(r.stopped);
