@@ -21,7 +21,7 @@
  *
  *   1  the record is not 40 bytes of kind 0x10; in a log: an unknown kind, or an event cut short
  *   2  a field of the record is outside its table; in a log: a bad register, or a size outside 1 to 64; of a watch: a length outside
- *      1 to 8, or a pair past the limit
+ *      1 to 8, or a pair past the limit; a block of more than 1,000 records
  *   3  the file is not 141 bytes of kind 0x20, or a known bit above 16 is set
  *   4  the instruction is complex: its accesses are not a plain list. The answer carries the opcode
  *   5  an operand that is accessed names no register or memory, or a string list names no string slot
@@ -44,6 +44,10 @@
 #ifdef __cplusplus
 extern "C" {
 #endif
+
+/* A block never has more records, and each gets so many bytes of answer. */
+#define MACHHUREL_BLOCK_RECORDS 1000
+#define MACHHUREL_ANSWER_BYTES 4
 
 /* A log never needs more bytes or events, a listing never more bytes. */
 #define MACHHUREL_LOG_BYTES 177
@@ -70,6 +74,9 @@ extern "C" {
 
 /* machhurel_exceptions: bit 13 for #GP, bit 14 for #PF. */
 #define MACHHUREL_EXCEPTIONS(answer) MACHHUREL_CAST(uint32_t, ((answer) >> 32))
+
+/* machhurel_block: the records before the first that is refused 7; MACHHUREL_COUNT has the bytes of log written. */
+#define MACHHUREL_RECORDS(answer) MACHHUREL_CAST(unsigned, (((answer) >> 8) & 0xFFFF))
 
 /* machhurel_event: there is no event at or past the log's end. */
 #define MACHHUREL_FINISHED 255
@@ -172,6 +179,22 @@ uint64_t machhurel_event(const uint8_t *log, size_t log_len, size_t at);
  */
 uint64_t machhurel_difference(const uint8_t *first, size_t first_len, const uint8_t *second, size_t second_len,
                               uint64_t *at);
+
+/*
+ * Visits up to MACHHUREL_BLOCK_RECORDS records of `each` bytes (MACHHUREL_RECORD_BYTES) under one register file, which is parsed
+ * once. Their logs go into log[start..] behind one another, without a gap, and equal those of single calls. Each record gets
+ * MACHHUREL_ANSWER_BYTES in `answers`: its number, the length of its log (after 7 the bytes needed), and the opcode after 4 as two
+ * bytes, low byte first, else 0. A record that is refused 1, 2, 4, 5 or 6 writes no log, and the next goes on. The first that is
+ * refused 7 gets its answer and ends the call: all later bytes of both buffers stay. MACHHUREL_NUMBER is 0 then, MACHHUREL_RECORDS the
+ * number of records before it, which are all where none is refused 7, and MACHHUREL_COUNT the bytes of log written. With
+ * MACHHUREL_LOG_BYTES a record behind the start none is.
+ *
+ * The whole call is refused, writes nothing and answers its number alone, in this order: 1 where `each` is no record's length or
+ * records_len no multiple of it; 2 for too many records; 3 for a bad file; 7 for fewer than MACHHUREL_ANSWER_BYTES a record. No
+ * records succeed.
+ */
+uint64_t machhurel_block(const uint8_t *records, size_t records_len, size_t each, const uint8_t *file, size_t file_len, uint8_t *log,
+                         size_t log_len, size_t start, uint8_t *answers, size_t answers_len);
 
 /*
  * Visits the record under the register file as machhurel_visit does, from session->used on, and counts the log that it wrote. Answers as

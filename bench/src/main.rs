@@ -1,11 +1,15 @@
 //! Visits the same records by the given Rust and by the library, in interleaved rounds, and prints medians of the processor's time.
 //!
-//! `bench [--records N] [--rounds R] [--seed S]` compares; `bench --count rust|before|ours|watch|none --input
-//! mixed|everyday|indexed` runs one side once, for a tool that counts instructions (`watch` steps a watch over the pairs; `none`
-//! makes the input and visits nothing). `before` is there where the bench was built with MACHHUREL_BEFORE: see build.rs.
+//! `bench [--records N] [--rounds R] [--seed S]` compares, each side by single calls, and then single calls with blocks of records.
+//!
+//! `bench --count rust|before|ours|watch|append|block|none --input mixed|everyday|indexed` runs one side once, for a tool that
+//! counts instructions: `watch` steps a watch over the pairs, `append` appends them to a session, `block` visits blocks of records
+//! (and `blocks-made` only makes these), `none` makes the input and visits nothing. `before` is there where the bench was built
+//! with MACHHUREL_BEFORE: see build.rs.
 
 #[cfg(before)]
 mod before;
+mod blocks;
 mod everyday;
 mod forms;
 mod indexed;
@@ -42,11 +46,11 @@ const SIDES: &[(&str, Visit)] = &[
 const INPUTS: [(&str, fn(u64, usize) -> Input); 3] =
     [("mixed", inputs::mixed), ("everyday", everyday::input), ("indexed", indexed::input)];
 
-/// One pass over the input: the bytes of all logs, added up.
-fn pass(input: &Input, visit: Visit) -> usize {
+/// One pass over records and their files: the bytes of all logs, added up.
+fn pass<'a>(pairs: impl Iterator<Item = (&'a [u8], &'a [u8])>, visit: Visit) -> usize {
     let mut log = [0u8; 177];
     let mut total = 0;
-    for (record, file) in input.pairs() {
+    for (record, file) in pairs {
         total += visit(black_box(record), black_box(file), &mut log);
         black_box(&log);
     }
@@ -79,7 +83,7 @@ fn compare(name: &str, input: &Input, rounds: usize) {
     for _ in 0..rounds {
         for ((_, visit), times) in SIDES.iter().zip(&mut times) {
             let begun = now();
-            black_box(pass(input, *visit));
+            black_box(pass(input.pairs(), *visit));
             times.push(now() - begun);
         }
     }
@@ -105,8 +109,11 @@ fn main() {
         let (_, made) = INPUTS.iter().find(|(name, _)| *name == wanted).expect("mixed, everyday or indexed");
         let input = made(seed, records);
         let total = match SIDES.iter().find(|(name, _)| *name == side) {
-            Some((_, visit)) => pass(&input, *visit),
+            Some((_, visit)) => pass(input.pairs(), *visit),
             None if side == "watch" => ours::watch(&input),
+            None if side == "append" => ours::append(&input),
+            None if side == "block" => blocks::of(&input).iter_mut().map(blocks::Block::visit).sum(),
+            None if side == "blocks-made" => blocks::of(&input).len(),
             None => 0,
         };
         println!("{total}");
@@ -115,6 +122,8 @@ fn main() {
     let rounds = number("--rounds", 11) as usize;
     println!("bench: seed {seed}, {rounds} interleaved rounds, medians");
     for (name, made) in INPUTS {
-        compare(name, &made(seed, records), rounds);
+        let input = made(seed, records);
+        compare(name, &input, rounds);
+        blocks::compare(name, &input, rounds);
     }
 }

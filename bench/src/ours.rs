@@ -2,7 +2,7 @@
 use std::hint::black_box;
 
 use machhurel::ffi::machhurel_visit;
-use machhurel::Watch;
+use machhurel::{Session, Watch, LOG_BYTES};
 
 use crate::inputs::Input;
 
@@ -23,4 +23,14 @@ pub fn watch(input: &Input) -> usize {
     }
     let tally = watch.tally();
     (tally.none + tally.part + tally.whole) as usize
+}
+
+/// One session over all pairs, in a buffer with room for every log: its events.
+pub fn append(input: &Input) -> usize {
+    let mut buffer = vec![0; LOG_BYTES * input.len()];
+    let mut session = Session::new(&mut buffer);
+    for (record, file) in input.pairs() {
+        let _complex = session.append(black_box(record), black_box(file));
+    }
+    session.events() as usize
 }

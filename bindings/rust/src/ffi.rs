@@ -32,6 +32,18 @@ extern "C" {
         second_len: usize,
         at: *mut u64,
     ) -> u64;
+    pub fn machhurel_block(
+        records: *const u8,
+        records_len: usize,
+        each: usize,
+        file: *const u8,
+        file_len: usize,
+        log: *mut u8,
+        log_len: usize,
+        start: usize,
+        answers: *mut u8,
+        answers_len: usize,
+    ) -> u64;
     pub fn machhurel_append(
         session: *mut [u64; 3],
         record: *const u8,

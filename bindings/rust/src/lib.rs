@@ -31,6 +31,7 @@
 extern crate std;
 
 mod access;
+mod block;
 mod calls;
 mod difference;
 pub mod digits;
@@ -51,6 +52,7 @@ mod stream;
 mod watch;
 
 pub use access::Access;
+pub use block::{visit_block, Answers, Block, ANSWER_BYTES, BLOCK_RECORDS};
 pub use calls::{
     digest, exceptions, listing, privilege, visit, Digest, Exceptions, PrivilegeLevel,
 };

@@ -74,6 +74,8 @@ fn kinds_lengths_and_bounds() {
     assert_eq!(of("LOG_BYTES"), Some(LOG_BYTES));
     assert_eq!(of("LOG_EVENTS"), Some(LOG_EVENTS));
     assert_eq!(of("LISTING_BYTES"), Some(LISTING_BYTES));
+    assert_eq!(of("BLOCK_RECORDS"), Some(BLOCK_RECORDS));
+    assert_eq!(of("ANSWER_BYTES"), Some(ANSWER_BYTES));
 }
 
 #[test]

@@ -1,2 +1,3 @@
 pub mod Halves
-pub mod Addresses
+pub mod Sums
+pub mod NoPlace

@@ -1,17 +1,12 @@
-// Addresses: what a spec stands for, the address of a memory operand, and where it lies under a register file.
-mod named;
-mod operands;
-mod places;
-mod shapes;
-mod terms;
-mod words;
+// Addresses: what a register file says of the registers that a record's addresses are made of, and sums modulo two to the 64.
+mod places; // places.rt: the one place where a register file is asked
+mod values; // values.rt: sums of what is known
+mod words; // words.rt: numbers of 64 bits
 
-pub use named::apply_x86_zext;
-pub use named::fourth_of;
-pub use named::mask_for;
-pub use named::slot_register;
-pub use operands::operand_address;
-pub use places::compute_addr;
-pub use shapes::shape_of;
+pub use places::Sources;
+pub use places::resolve;
+pub use values::low;
+pub use values::plus;
+pub use values::sum;
 pub use words::sign_extended;
 pub use words::times;

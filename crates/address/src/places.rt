@@ -1,37 +1,64 @@
-// Where an address lies under a register file.
-use crate::terms::term_value;
-use definition::Address;
+// What a register file says of the registers that a record's addresses are made of: the one place where a file is asked.
+use crate::values::plus;
+use crate::values::scaled;
+use crate::values::sum;
+use record::Record;
+use registers::RegSpec;
+use registers::RegisterFile;
 use registers::Value;
 ghost use mathlib.Core.Path.{_≡_};
-ghost use Prim.Native.Nat.{_+_, _%_};
-ghost use Rattle.registers.specs.Files.{fileWith, after};
-ghost use Rattle.registers.specs.declared.Value.the-variants.{Known};
-ghost use Rattle.definition.specs.Addresses.{word, addressOf};
+ghost use Rattle.address.specs.Places.{impliedPlace, sourcesOf};
 
-pub fn compute_addr(values: &[u64; 17], known: u32, a: Address) -> Value
-    ensures { λ r. ⌜ r ≡ addressOf (fileWith (now (values .entry)) known) a ⌝ }
-{
-    let base = a.base;
-    let index = a.index;
-    sum(
-        term_value(values, known, base),
-        term_value(values, known, index),
-        a.offset,
-    )
+// What the addresses of a record are made of: `regs[1]`, `regs[2]` times scale, the two registers that specs 20 to 23 name whole or
+// by their low half, and where the memory of the implicit list lies.
+pub struct Sources {
+    pub base: Value,
+    pub index: Value,
+    pub rdi: Value,
+    pub rsi: Value,
+    pub implied: Value,
 }
 
-// Base, index and displacement.
-fn sum(base: Value, index: Value, offset: u64) -> Value
-    ensures { λ r. ⌜ r ≡ after base (λ u. after index (λ v. Known ((u + v + offset) % word))) ⌝ }
+const RBX: RegSpec = RegSpec { bank: 0, number: 3 };
+
+const RSP: RegSpec = RegSpec { bank: 0, number: 4 };
+
+const RSI: RegSpec = RegSpec { bank: 0, number: 6 };
+
+const RDI: RegSpec = RegSpec { bank: 0, number: 7 };
+
+const EDI: RegSpec = RegSpec { bank: 1, number: 7 };
+
+const AL: RegSpec = RegSpec { bank: 4, number: 0 };
+
+const MINUS_8: u64 = 0xFFFF_FFFF_FFFF_FFF8;
+
+// Where the memory of an implicit list lies: unknown for one that has none.
+fn implied_place(f: RegisterFile, list: u16) -> Value
+    ensures { λ r. ⌜ r ≡ impliedPlace f list ⌝ }
 {
-    match base {
-        Value::Known(u) => match index {
-            Value::Known(v) => {
-                let both = std::num::wrapping_add_u64(u, v);
-                Value::Known(std::num::wrapping_add_u64(both, offset))
-            }
-            Value::Unknown => Value::Unknown,
-        },
-        Value::Unknown => Value::Unknown,
+    match list {
+        15 => f.value(EDI),
+        16 => f.value(RDI),
+        26 => plus(f.value(RSP), MINUS_8),
+        27 => f.value(RSP),
+        28 => sum(f.value(RBX), f.value(AL)),
+        _ => Value::Unknown,
+    }
+}
+
+// The record is one after fix-ups.
+pub fn resolve(f: RegisterFile, x: Record) -> Sources
+    ensures { λ r. ⌜ r ≡ sourcesOf f x ⌝ }
+{
+    let two = f.two_values(x.regs[1], x.regs[2]);
+    let base = two.base;
+    let index = two.index;
+    Sources {
+        base: base,
+        index: scaled(index, x.scale),
+        rdi: f.value(RDI),
+        rsi: f.value(RSI),
+        implied: implied_place(f, x.digest.extra),
     }
 }

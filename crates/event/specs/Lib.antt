@@ -1,3 +1,4 @@
 pub mod Wholes
 pub mod Counts
 pub mod Held
+pub mod Moves

@@ -9,5 +9,4 @@ pub use walk::Counted;
 pub use walk::count_events;
 pub use writer::put_event;
 pub use writer::put_memory;
-pub use writer::put_register_read;
-pub use writer::put_register_write;
+pub use writer::put_register;

@@ -4,25 +4,32 @@ use implicit::Way;
 use registers::RegSpec;
 use registers::Value;
 ghost use mathlib.Core.Path.{_≡_};
-ghost use mathlib.Core.List.{_∷_, [], _++_};
-ghost use Prim.Native.Nat.{_≤_};
-ghost use lib.ListN.{length, drop};
+ghost use mathlib.Core.List.{_∷_, []};
+ghost use Prim.Native.Nat.{_≤_, _<_};
+ghost use lib.ListN.{length};
 ghost use Rattle.laws.specs.Lending.{size, Logged};
-ghost use Rattle.definition.specs.Logs.{registerBytes, memoryBytes, unknownBytes, eventBytes, memoryEvent};
-ghost use Rattle.definition.specs.declared.Event.the-variants.{RegisterRead, RegisterWrite};
+ghost use Rattle.definition.specs.Logs.{eventBytes, memoryEvent};
+ghost use Rattle.event.specs.Moves.{kindOf, moveEvent};
 
-pub fn put_register_read(log: &mut [u8], y: RegSpec) -> usize
-    requires { ⌜ size eventBytes (RegisterRead y ∷ []) ≤ length (now log) ⌝ }
-    ensures { λ r. ⌜ Logged eventBytes (RegisterRead y ∷ []) (now (log .entry)) (now (log .exit)) r ⌝ }
+// The kind of a write stands behind that of the read.
+fn kind_of(way: Way, read: u8) -> u8
+    requires { ⌜ read < 255 ⌝ }
+    ensures { λ r. ⌜ r ≡ kindOf way read ⌝ }
 {
-    put_register(log, 1, y)
+    match way {
+        Way::Read => read,
+        Way::Write => read + 1,
+    }
 }
 
-pub fn put_register_write(log: &mut [u8], y: RegSpec) -> usize
-    requires { ⌜ size eventBytes (RegisterWrite y ∷ []) ≤ length (now log) ⌝ }
-    ensures { λ r. ⌜ Logged eventBytes (RegisterWrite y ∷ []) (now (log .entry)) (now (log .exit)) r ⌝ }
+pub fn put_register(log: &mut [u8], way: Way, y: RegSpec) -> usize
+    requires { ⌜ size eventBytes (moveEvent way y ∷ []) ≤ length (now log) ⌝ }
+    ensures { λ r. ⌜ Logged eventBytes (moveEvent way y ∷ []) (now (log .entry)) (now (log .exit)) r ⌝ }
 {
-    put_register(log, 2, y)
+    log[0] = kind_of(way, 1);
+    log[1] = y.bank;
+    log[2] = y.number;
+    3
 }
 
 // A read or a write of n bytes of memory, at an address that may be unknown.
@@ -30,15 +37,18 @@ pub fn put_memory(log: &mut [u8], way: Way, at: Value, n: u8) -> usize
     requires { ⌜ size eventBytes (memoryEvent way at n ∷ []) ≤ length (now log) ⌝ }
     ensures { λ r. ⌜ Logged eventBytes (memoryEvent way at n ∷ []) (now (log .entry)) (now (log .exit)) r ⌝ }
 {
-    match way {
-        Way::Read => match at {
-            Value::Known(a) => put_known(log, 3, a, n),
-            Value::Unknown => put_unknown(log, 5, n),
-        },
-        Way::Write => match at {
-            Value::Known(a) => put_known(log, 4, a, n),
-            Value::Unknown => put_unknown(log, 6, n),
-        },
+    match at {
+        Value::Known(a) => {
+            log[0] = kind_of(way, 3);
+            laws::put_u64(&mut log[1..], a);
+            log[9] = n;
+            10
+        }
+        Value::Unknown => {
+            log[0] = kind_of(way, 5);
+            log[1] = n;
+            2
+        }
     }
 }
 
@@ -47,41 +57,11 @@ pub fn put_event(log: &mut [u8], e: Event) -> usize
     ensures { λ r. ⌜ Logged eventBytes (e ∷ []) (now (log .entry)) (now (log .exit)) r ⌝ }
 {
     match e {
-        Event::RegisterRead(y) => put_register(log, 1, y),
-        Event::RegisterWrite(y) => put_register(log, 2, y),
-        Event::MemoryRead(a, n) => put_known(log, 3, a, n),
-        Event::MemoryWrite(a, n) => put_known(log, 4, a, n),
-        Event::UnknownRead(n) => put_unknown(log, 5, n),
-        Event::UnknownWrite(n) => put_unknown(log, 6, n),
+        Event::RegisterRead(y) => put_register(log, Way::Read, y),
+        Event::RegisterWrite(y) => put_register(log, Way::Write, y),
+        Event::MemoryRead(a, n) => put_memory(log, Way::Read, Value::Known(a), n),
+        Event::MemoryWrite(a, n) => put_memory(log, Way::Write, Value::Known(a), n),
+        Event::UnknownRead(n) => put_memory(log, Way::Read, Value::Unknown, n),
+        Event::UnknownWrite(n) => put_memory(log, Way::Write, Value::Unknown, n),
     }
-}
-
-// One writer for each shape of a body: a register, an address and a size, a size alone.
-fn put_register(log: &mut [u8], kind: u8, y: RegSpec) -> usize
-    requires { ⌜ 3 ≤ length (now log) ⌝ }
-    ensures { λ r. ⌜ (r ≡ 3) × (now (log .exit) ≡ registerBytes kind y ++ drop 3 (now (log .entry))) ⌝ }
-{
-    log[0] = kind;
-    log[1] = y.bank;
-    log[2] = y.number;
-    3
-}
-
-fn put_known(log: &mut [u8], kind: u8, a: u64, n: u8) -> usize
-    requires { ⌜ 10 ≤ length (now log) ⌝ }
-    ensures { λ r. ⌜ (r ≡ 10) × (now (log .exit) ≡ memoryBytes kind a n ++ drop 10 (now (log .entry))) ⌝ }
-{
-    log[0] = kind;
-    laws::put_u64(&mut log[1..], a);
-    log[9] = n;
-    10
-}
-
-fn put_unknown(log: &mut [u8], kind: u8, n: u8) -> usize
-    requires { ⌜ 2 ≤ length (now log) ⌝ }
-    ensures { λ r. ⌜ (r ≡ 2) × (now (log .exit) ≡ unknownBytes kind n ++ drop 2 (now (log .entry))) ⌝ }
-{
-    log[0] = kind;
-    log[1] = n;
-    2
 }

@@ -1,3 +1,4 @@
 pub mod Opcodes
 pub mod Shapes
 pub mod Answers
+pub mod Narrow

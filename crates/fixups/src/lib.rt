@@ -22,18 +22,38 @@ pub fn digest_of(x: Record) -> BehaviorDigest
 {
     let d = x.digest;
     if d.is_nontrivial() {
-        rules::fix_up(x)
+        rules::fix_fields(
+            x.opcode,
+            x.count,
+            x.specs[0],
+            x.regs[1].bank,
+            x.size,
+            x.prefixes,
+            d,
+        )
     } else {
         d
     }
 }
 
-// The record with its digest after fix-ups.
+// The record with its digest after fix-ups. The test stands here too: most records need no fix-up, and no call.
 pub fn fixed_up(mut x: Record) -> Record
     ensures { λ r. ⌜ r ≡ fixedUp x ⌝ }
 {
-    let d = digest_of(x);
-    x.digest = d;
+    let base = x.digest;
+    if base.is_nontrivial() {
+        let changed = rules::fix_fields(
+            x.opcode,
+            x.count,
+            x.specs[0],
+            x.regs[1].bank,
+            x.size,
+            x.prefixes,
+            base,
+        );
+        x.digest = changed;
+        return x;
+    }
     x
 }
 

@@ -3,6 +3,7 @@ use access::Access;
 use digest::BehaviorDigest;
 use digest::DigestAnswer;
 use record::Record;
+use registers::RegSpec;
 ghost use mathlib.Core.Path.{_≡_};
 ghost use mathlib.Core.Bool.{cond};
 ghost use Prim.Native.Nat.{_≤_};
@@ -11,6 +12,7 @@ ghost use Rattle.digest.specs.Digests.{withAccess, withList};
 ghost use Rattle.definition.specs.Tables.{ruleOf, mul, imul, div, nop, cmpxchg, movhalf, extrq, insertq, return};
 ghost use Rattle.definition.specs.Tables.{mulx, maskmov, pcmpestri, pcmpestrm, loop};
 ghost use Rattle.definition.specs.Behaviors.{operandWidth, byWidth, fixUp};
+ghost use Rattle.fixups.specs.Fields.{fieldsOf};
 
 // The spec `RegMMM`, whose register is `regs[1]`.
 pub const REG_MMM: u8 = 2;
@@ -230,4 +232,39 @@ pub fn fix_up(x: Record) -> BehaviorDigest
         21..=23 => fix_loop(x),
         _ => x.digest,
     }
+}
+
+// The same by the fields that the rules look at: a record by value would go through memory at the call.
+pub fn fix_fields(
+    opcode: u16,
+    count: u8,
+    spec: u8,
+    bank: u8,
+    size: u8,
+    prefixes: u8,
+    d: BehaviorDigest,
+) -> BehaviorDigest
+    ensures { λ r. ⌜ r ≡ fixUp (ruleOf opcode) (fieldsOf opcode count spec bank size prefixes d) d ⌝ }
+{
+    let none = RegSpec { bank: 0, number: 0 };
+    let second = RegSpec {
+        bank: bank,
+        number: 0,
+    };
+    let specs = [spec, 0, 0, 0];
+    let regs = [none, second, none, none];
+    let x = Record {
+        opcode: opcode,
+        count: count,
+        specs: specs,
+        regs: regs,
+        size: size,
+        scale: 0,
+        disp: 0,
+        imm: 0,
+        prefixes: prefixes,
+        mask: 0,
+        digest: d,
+    };
+    fix_up(x)
 }

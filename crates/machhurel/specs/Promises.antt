@@ -8,6 +8,8 @@ use Rattle.definition.specs.Listings.{listingCall}
 use Rattle.definition.specs.Readings.{readAt}
 use Rattle.definition.specs.Visits.{visitOf}
 use Rattle.difference.specs.Partings.{partedOf}
+use Rattle.block.specs.Bits.{inBits}
+use Rattle.block.specs.Blocks.{blockCall}
 use Rattle.session.specs.Sessions.{appended}
 use Rattle.session.specs.Words.{sessionIn, inWords, emptyWords}
 use Rattle.reader.specs.Held.{handedTo}
@@ -36,6 +38,7 @@ EveryExportDetermined =
     × OneOutcome (namingBits s (nameAt (variable address length) p s))
     × OneOutcome (inWords (appended b f (sessionIn words, p)))
     × OneOutcome emptyWords
+    × OneOutcome (inBits (blockCall length b f p s words))
     × OneOutcome freshWords
     × OneOutcome (handedWords (handedTo (readerBy words) b p s))
     × OneOutcome (closedWords (readerBy words))

@@ -1,9 +1,11 @@
 // What users call: every call takes bytes and answers one number, whose bits crate answers names. No call requires anything.
+mod blocks; // blocks.rt: the call on a block of records
 mod calls; // calls.rt: the calls on a record and on a log, exported as C
 mod readers; // readers.rt: the calls on a reader of a stream, whose words a C caller keeps
 mod sessions; // sessions.rt: the calls on a log session, whose words a C caller keeps
 mod watches; // watches.rt: the calls on a watch, whose words a C caller keeps
 
+pub use blocks::machhurel_block;
 pub use calls::machhurel_difference;
 pub use calls::machhurel_digest;
 pub use calls::machhurel_event;

@@ -1,5 +1,6 @@
 -- What a record that is not refused keeps to, for those who call. Assumes nothing.
 use Prim.Native.Nat.{ℕ, _≤_}
+use native.Mathlib.Omega.{arith}
 use mathlib.Core.Path.{_≡_, refl, sym, ap, _∙_}
 use mathlib.Core.List.{List, [], _∷_}
 use mathlib.Core.Bool.{Bool, true, false, not, cond, _||_, or-assoc, or-false}
@@ -17,6 +18,15 @@ use Rattle.record.specs.declared.RecordAnswer.{RecordAnswer}
 -- four tests, joined as code joins them
 pub some-of-four : (a b c d : Bool) → (a || b || c || d) ≡ (a || (b || (c || (d || false))))
 some-of-four a b c d = simp (or-assoc, or-false)
+
+-- four numbers, each taken out of its place
+pub four-of : (l : List ℕ) → length l ≡ 4 → (i : ℕ) → getD (getD l 0 0 ∷ getD l 1 0 ∷ getD l 2 0 ∷ getD l 3 0 ∷ []) i 0 ≡ getD l i 0
+four-of [] e i = absurd (omega arith)
+four-of (a ∷ []) e i = absurd (omega arith)
+four-of (a ∷ b ∷ []) e i = absurd (omega arith)
+four-of (a ∷ b ∷ c ∷ []) e i = absurd (omega arith)
+four-of (a ∷ b ∷ c ∷ d ∷ []) e i = refl
+four-of (a ∷ b ∷ c ∷ d ∷ x ∷ l) e i = absurd (omega arith)
 
 -- every number is inside its table
 pub record Inside (x : Record) : Type 0 where

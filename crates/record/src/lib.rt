@@ -4,12 +4,13 @@ use registers::RegSpec;
 ghost use mathlib.Core.Path.{_≡_};
 ghost use mathlib.Core.Bool.{not};
 ghost use Prim.Native.Nat.{_+_, _≤_, _<_};
-ghost use lib.ListN.{length};
+ghost use mathlib.Core.List.{_∷_, []};
+ghost use lib.ListN.{length, getD};
 ghost use lib.Dec.{ltb};
 ghost use Rattle.laws.specs.Words.{bit};
 ghost use Rattle.laws.specs.Tests.{any};
 ghost use Rattle.registers.specs.Banks.{isRegister};
-ghost use Rattle.record.specs.Records.{regFrom, recordOf, outside, refusedRecord, recordAnswer, specAt, regAt, vexW, rexW, operandSize, addressSize};
+ghost use Rattle.record.specs.Records.{regFrom, recordOf, outside, recordRefusal, refusedRecord, recordAnswer, specAt, regAt, vexW, rexW, operandSize, addressSize};
 
 // The fields of a record, in their order: `size` is document 01's `mem_size`.
 pub struct Record {
@@ -37,14 +38,9 @@ impl Record {
     pub fn from_bytes(b: &[u8]) -> RecordAnswer
         ensures { λ r. ⌜ r ≡ recordAnswer (now (b .entry)) ⌝ }
     {
-        if b.len() != 40 {
-            return Record::refused(1);
-        }
-        if b[0] != 0x10 {
-            return Record::refused(1);
-        }
-        if is_outside(b) {
-            return Record::refused(2);
+        let number = refusal_of(b);
+        if number != 0 {
+            return Record::refused(number);
         }
         let read = Record::parse(b);
         RecordAnswer {
@@ -82,7 +78,7 @@ impl Record {
         }
     }
 
-    fn parse(b: &[u8]) -> Record
+    pub fn parse(b: &[u8]) -> Record
         requires { ⌜ length (now b) ≡ 40 ⌝ }
         ensures { λ r. ⌜ r ≡ recordOf (now (b .entry)) ⌝ }
     {
@@ -113,15 +109,20 @@ impl Record {
         }
     }
 
-    // The four are taken out before one is chosen: else the whole record is copied for it.
+    // One of four numbers, by a test for each: an array that is asked at a place lies in memory.
     pub fn spec(self, i: u8) -> u8
         ensures { λ r. ⌜ r ≡ specAt self i ⌝ }
     {
-        let specs = self.specs;
-        let k = i as usize;
-        if k < 4 { specs[k] } else { 0 }
+        one_of(
+            i,
+            self.specs[0],
+            self.specs[1],
+            self.specs[2],
+            self.specs[3],
+        )
     }
 
+    // The four are taken out before one is chosen: else the whole record is copied for it.
     pub fn reg_at(self, i: u8) -> RegSpec
         ensures { λ r. ⌜ r ≡ regAt self i ⌝ }
     {
@@ -156,6 +157,34 @@ impl Record {
         ensures { λ r. ⌜ r ≡ addressSize self ⌝ }
     {
         has_bit(self.prefixes, 3)
+    }
+}
+
+// The refusal of a record's bytes: 1 or 2, or 0.
+pub fn refusal_of(b: &[u8]) -> u8
+    ensures { λ r. ⌜ r ≡ recordRefusal (now (b .entry)) ⌝ }
+{
+    if b.len() != 40 {
+        return 1;
+    }
+    if b[0] != 0x10 {
+        return 1;
+    }
+    if is_outside(b) {
+        return 2;
+    }
+    0
+}
+
+fn one_of(i: u8, a: u8, b: u8, c: u8, d: u8) -> u8
+    ensures { λ r. ⌜ r ≡ getD (a ∷ b ∷ c ∷ d ∷ []) i 0 ⌝ }
+{
+    match i {
+        0 => a,
+        1 => b,
+        2 => c,
+        3 => d,
+        _ => 0,
     }
 }
 

@@ -1,12 +1,13 @@
 // Registers by bank and number, and the register file that says what is known of them.
 ghost use mathlib.Core.Path.{_≡_};
 ghost use mathlib.Core.Bool.{cond};
-ghost use Prim.Native.Nat.{_<_, _/_, _%_, _^_};
+ghost use Prim.Native.Nat.{_<_, _^_};
 ghost use lib.ListN.{length, getD};
-ghost use lib.Dec.{ltb};
+ghost use Rattle.laws.specs.Words.{bit};
 ghost use Rattle.registers.specs.Banks.{reg, bankNumbers, isRegister, isLogged, widthOf};
-ghost use Rattle.registers.specs.Files.{fileWith, fileOf, refusedFile, fileAnswer, slotOf, valueOf, after};
+ghost use Rattle.registers.specs.Files.{fileWith, fileOf, refusedFile, fileAnswer, valueOf};
 ghost use Rattle.registers.specs.declared.Value.the-variants.{Known, Unknown};
+ghost use Rattle.registers.specs.Told.{fileRefusal, twoValues, isTold, toldNumbers, toldSlot, toldPart, toldByte};
 
 // A register: its bank, and its number there.
 pub struct RegSpec {
@@ -18,6 +19,12 @@ pub struct RegSpec {
 pub enum Value {
     Known(u64),
     Unknown,
+}
+
+// What is known of the two registers of an address.
+pub struct TwoValues {
+    pub base: Value,
+    pub index: Value,
 }
 
 // The sixteen general registers and rip, and a bit for each that is known.
@@ -99,20 +106,13 @@ impl RegisterFile {
     pub fn from_bytes(b: &[u8]) -> FileAnswer
         ensures { λ r. ⌜ r ≡ fileAnswer (now (b .entry)) ⌝ }
     {
-        if b.len() != 141 {
+        if refusal_of(b) != 0 {
             return RegisterFile::refused();
         }
-        if b[0] != 0x20 {
-            return RegisterFile::refused();
-        }
-        if laws::u32_at(b, 1) < 131072 {
-            let file = RegisterFile::parse(b);
-            FileAnswer {
-                number: 0,
-                file: file,
-            }
-        } else {
-            RegisterFile::refused()
+        let file = RegisterFile::parse(b);
+        FileAnswer {
+            number: 0,
+            file: file,
         }
     }
 
@@ -129,7 +129,7 @@ impl RegisterFile {
         }
     }
 
-    fn parse(b: &[u8]) -> RegisterFile
+    pub fn parse(b: &[u8]) -> RegisterFile
         requires { ⌜ length (now b) ≡ 141 ⌝ }
         ensures { λ r. ⌜ r ≡ fileOf (now (b .entry)) ⌝ }
     {
@@ -159,106 +159,148 @@ impl RegisterFile {
         }
     }
 
-    // The value of one of the seventeen, where it is known.
-    pub fn slot(self, k: u8) -> Value
-        ensures { λ r. ⌜ r ≡ slotOf self k ⌝ }
-    {
-        slot_in(&self.values, self.known, k)
-    }
-
     // What is known of a register: a part of one of the seventeen. One that the table has not is unknown.
     pub fn value(self, x: RegSpec) -> Value
         ensures { λ r. ⌜ r ≡ valueOf self x ⌝ }
     {
         value_in(&self.values, self.known, x)
     }
-}
 
-// The same of the values lent, with their known bits: an element of a lent array is read where it stands, and that of a file by value once
-// the whole file is copied.
-pub fn slot_in(values: &[u64; 17], known: u32, k: u8) -> Value
-    ensures { λ r. ⌜ r ≡ slotOf (fileWith (now (values .entry)) known) k ⌝ }
-{
-    let i = k as usize;
-    if i < 17 {
-        if (known >> k) % 2 == 1 {
-            Value::Known(values[i])
-        } else {
-            Value::Unknown
+    // The same of two registers, the base and the index of an address: the file is copied once for both.
+    pub fn two_values(self, base: RegSpec, index: RegSpec) -> TwoValues
+        ensures { λ r. ⌜ r ≡ twoValues self base index ⌝ }
+    {
+        TwoValues {
+            base: value_in(&self.values, self.known, base),
+            index: value_in(&self.values, self.known, index),
         }
-    } else {
-        Value::Unknown
     }
 }
 
-pub fn value_in(values: &[u64; 17], known: u32, x: RegSpec) -> Value
+// Refusal 3 of a file's bytes, or 0.
+pub fn refusal_of(b: &[u8]) -> u8
+    ensures { λ r. ⌜ r ≡ fileRefusal (now (b .entry)) ⌝ }
+{
+    if b.len() != 141 {
+        return 3;
+    }
+    if b[0] != 0x20 {
+        return 3;
+    }
+    if laws::u32_at(b, 1) < 131072 { 0 } else { 3 }
+}
+
+// An element of a lent array is read where it stands, and that of a file by value once the whole file is copied. Most registers are
+// whole; what a file tells of the others is found without a jump on the bank.
+fn value_in(values: &[u64; 17], known: u32, x: RegSpec) -> Value
     ensures { λ r. ⌜ r ≡ valueOf (fileWith (now (values .entry)) known) x ⌝ }
 {
-    let bank = x.bank;
-    let number = x.number;
-    match bank {
-        0 => whole(general(values, known, number)),
-        1 => part(general(values, known, number), 1, 4294967296),
-        2 => part(general(values, known, number), 1, 65536),
-        3 => part(general(values, known, number), 1, 256),
-        4 => byte(values, known, number),
-        9 => whole(pointer(values, known, number)),
-        10 => part(pointer(values, known, number), 1, 4294967296),
-        _ => Value::Unknown,
+    if x.bank == 0 {
+        return whole(values, known, x.number);
     }
+    let k = slot_of(x);
+    let i = k as usize;
+    let part = part_of(x, values[i]);
+    let told = is_told(x);
+    let set = is_set(known, k);
+    known_if(told & set, part)
 }
 
-fn general(values: &[u64; 17], known: u32, number: u8) -> Value
-    ensures { λ r. ⌜ r ≡ cond (ltb number 16) (slotOf (fileWith (now (values .entry)) known) number) Unknown ⌝ }
+// A general register.
+fn whole(values: &[u64; 17], known: u32, number: u8) -> Value
+    ensures { λ r. ⌜ r ≡ valueOf (fileWith (now (values .entry)) known) (reg 0 number) ⌝ }
 {
-    if number < 16 {
-        slot_in(values, known, number)
+    let i = number as usize;
+    if i < 16 {
+        let set = is_set(known, number);
+        known_if(set, values[i])
     } else {
         Value::Unknown
     }
 }
 
-fn pointer(values: &[u64; 17], known: u32, number: u8) -> Value
-    ensures { λ r. ⌜ r ≡ cond (ltb number 1) (slotOf (fileWith (now (values .entry)) known) 16) Unknown ⌝ }
+fn known_if(set: bool, word: u64) -> Value
+    ensures { λ r. ⌜ (r ≡ cond set (Known word) Unknown) × (word < 2 ^ 64) ⌝ }
 {
-    if number < 1 {
-        slot_in(values, known, 16)
+    if set {
+        Value::Known(word)
     } else {
         Value::Unknown
     }
 }
 
-// The low byte of a register, and from 4 on the byte above it of the register four before.
-fn byte(values: &[u64; 17], known: u32, number: u8) -> Value
-    ensures { λ r. ⌜ r ≡ valueOf (fileWith (now (values .entry)) known) (reg 4 number) ⌝ }
+fn is_set(known: u32, k: u8) -> bool
+    requires { ⌜ k < 17 ⌝ }
+    ensures { λ r. ⌜ r ≡ bit known k ⌝ }
 {
-    if number < 4 {
-        return part(slot_in(values, known, number), 1, 256);
+    (known >> k) % 2 == 1
+}
+
+// Whether a file tells of it: general registers and their parts, RIP and EIP.
+fn is_told(x: RegSpec) -> bool
+    ensures { λ r. ⌜ r ≡ isTold x ⌝ }
+{
+    x.number < told_numbers(x.bank)
+}
+
+fn told_numbers(bank: u8) -> u8
+    ensures { λ r. ⌜ r ≡ toldNumbers bank ⌝ }
+{
+    if bank < 4 {
+        return 16;
     }
-    if number < 8 {
-        part(slot_in(values, known, number - 4), 256, 256)
+    if bank == 4 {
+        return 8;
+    }
+    if bank == 9 {
+        return 1;
+    }
+    if bank == 10 { 1 } else { 0 }
+}
+
+// Which of the seventeen it is a part of, where a file tells of it.
+fn slot_of(x: RegSpec) -> u8
+    ensures { λ r. ⌜ (r ≡ toldSlot x) × (r < 17) ⌝ }
+{
+    if 4 < x.bank {
+        return 16;
+    }
+    if x.bank == 4 {
+        x.number % 4
     } else {
-        Value::Unknown
+        x.number % 16
     }
 }
 
-// The whole of a value: a word has 64 bits.
-fn whole(v: Value) -> Value
-    ensures { λ r. ⌜ r ≡ after v (λ w. Known (w / 2 ^ 0 % 2 ^ 64)) ⌝ }
+// Which part of it: Q and RIP are the whole; ah, ch, dh and bh the second byte.
+fn part_of(x: RegSpec, word: u64) -> u64
+    ensures { λ r. ⌜ (r ≡ toldPart x word) × (word < 2 ^ 64) ⌝ }
 {
-    match v {
-        Value::Known(w) => Value::Known(w),
-        Value::Unknown => Value::Unknown,
+    if x.bank == 4 {
+        return byte_of(x.number, word);
+    }
+    if x.bank == 3 {
+        return word % 0x100;
+    }
+    if x.bank == 2 {
+        return word % 0x1_0000;
+    }
+    if x.bank == 1 {
+        return word % 0x1_0000_0000;
+    }
+    if x.bank == 10 {
+        word % 0x1_0000_0000
+    } else {
+        word
     }
 }
 
-// The part of a value that lies above `below` and is less than `size`.
-fn part(v: Value, below: u64, size: u64) -> Value
-    requires { ⌜ (0 < below) × (0 < size) ⌝ }
-    ensures { λ r. ⌜ r ≡ after v (λ w. Known (w / below % size)) ⌝ }
+fn byte_of(number: u8, word: u64) -> u64
+    ensures { λ r. ⌜ r ≡ toldByte number word ⌝ }
 {
-    match v {
-        Value::Known(w) => Value::Known(w / below % size),
-        Value::Unknown => Value::Unknown,
+    if 3 < number {
+        word / 0x100 % 0x100
+    } else {
+        word % 0x100
     }
 }

@@ -1,5 +1,3 @@
-pub mod Events
-pub mod Pieces
-pub mod Shapes
-pub mod Implicits
-pub mod Flags
+pub mod Specs
+pub mod Operands
+pub mod Logs

@@ -1,7 +1,5 @@
-// The log of a record's visit, written into a lent buffer: what each part of the record does, one writer for each step.
-mod entries;
-mod log;
-mod operands;
-mod touches;
+// The log of a visit, written. No register file is asked here: what the addresses are made of comes as values.
+mod explicit; // explicit.rt: the explicit operands, part by part
+mod log; // log.rt: the whole log
 
 pub use log::put_log;

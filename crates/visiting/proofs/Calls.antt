@@ -3,16 +3,15 @@ use Prim.Native.Nat.{ℕ}
 use native.Mathlib.Omega.{arith}
 use mathlib.Core.Path.{_≡_, refl, sym, ap, _∙_}
 use mathlib.Core.List.{List, [], _∷_}
-use mathlib.Core.Bool.{Bool, true, false, not, cond}
+use mathlib.Core.Bool.{Bool, true, false, not}
 use lib.ListN.{length}
 use Rattle.laws.proofs.Choice.{first-here, first-later}
-use Rattle.registers.specs.Files.{fileOf, isFile, fileAnswer}
+use Rattle.registers.specs.Files.{fileOf, isFile}
+use Rattle.registers.specs.Told.{fileRefusal}
 use Rattle.registers.specs.declared.RegisterFile.{RegisterFile}
-use Rattle.registers.specs.declared.FileAnswer.{FileAnswer}
-use Rattle.registers.proofs.Answers.{file-number, file-read}
-use Rattle.record.specs.Records.{recordOf, recordRefusal, recordAnswer}
-use Rattle.record.specs.declared.RecordAnswer.{RecordAnswer}
-use Rattle.record.proofs.Laws.{number-is, read-is}
+use Rattle.registers.proofs.Answers.{is-file, is-none}
+use Rattle.record.specs.Records.{recordOf, recordRefusal}
+use Rattle.record.specs.declared.Record.{Record}
 use Rattle.definition.specs.Behaviors.{fixedUp, complex}
 use Rattle.definition.specs.Logs.{bytesOf}
 use Rattle.definition.specs.Refusals.{nameless, sizeless, noRoom}
@@ -51,32 +50,23 @@ module _ (b : List ℕ) (f : RegisterFile) (buffer : List ℕ) (start : ℕ) whe
       ap (λ (n : ℕ). outcome n (recordOf b .opcode) (bytesOf (logOf b f)) buffer start)
       (past-record b (fromThree false) z ∙ first-later false 3 fromFour refl)
 
--- The same by what was read of the record
-module _ (b : List ℕ) (r : RecordAnswer) (e : r ≡ recordAnswer b) (buffer : List ℕ) (start : ℕ) where
-  pub bad-record : (bad : Bool) (f : RegisterFile) → (r .number ≡ 0 → ⊥) → (Refused (r .number), buffer) ≡ visitBy bad b f buffer start
-  bad-record bad f ne = rw (number-is b e) (sym (record-refuses b f buffer start bad (rw (number-is b e) at ne)))
+-- The same by the refusals that were found
+module _ (b : List ℕ) (buffer : List ℕ) (start : ℕ) where
+  pub bad-record : {r : ℕ} (bad : Bool) (f : RegisterFile) → r ≡ recordRefusal b → (r ≡ 0 → ⊥) → (Refused r, buffer) ≡ visitBy bad b f buffer start
+  bad-record bad f e ne = rw e (sym (record-refuses b f buffer start bad (rw e at ne)))
 
-  pub visited : (f : RegisterFile) → r .number ≡ 0 → visitRecord (fixedUp (r .read)) f buffer start ≡ visitBy false b f buffer start
-  visited f z = rw (read-is b e z) (sym (both-pass b f buffer start (sym (number-is b e) ∙ z)))
+  pub visited :
+      {r : ℕ} {x : Record} (f : RegisterFile) → r ≡ recordRefusal b → r ≡ 0 → x ≡ recordOf b
+      → visitRecord (fixedUp x) f buffer start ≡ visitBy false b f buffer start
+  visited f e z p = rw p (sym (both-pass b f buffer start (sym e ∙ z)))
 
--- and of the file
-module _
-    (b file : List ℕ) (r : RecordAnswer) (e : r ≡ recordAnswer b) (g : FileAnswer) (h : g ≡ fileAnswer file)
-    (buffer : List ℕ) (start : ℕ) (z : r .number ≡ 0)
-  where
-    file-is : g .number ≡ cond (isFile file) 0 3
-    file-is = ap (λ (a : FileAnswer). a .number) h ∙ file-number file
+  pub bad-file :
+      {r u : ℕ} (file : List ℕ) → r ≡ recordRefusal b → r ≡ 0 → u ≡ fileRefusal file → (u ≡ 0 → ⊥)
+      → (Refused u, buffer) ≡ visitBy (not (isFile file)) b (fileOf file) buffer start
+  unfolding fileRefusal
+  bad-file file e z p ne = rw (p, is-none file (rw p at ne)) (sym (file-refuses b (fileOf file) buffer start (sym e ∙ z)))
 
-    pub bad-file : (g .number ≡ 0 → ⊥) → (Refused (g .number), buffer) ≡ visitBy (not (isFile file)) b (fileOf file) buffer start
-    bad-file ne = by (isFile file) file-is
-      where
-        by : (t : Bool) → g .number ≡ cond t 0 3 → (Refused (g .number), buffer) ≡ visitBy (not t) b (fileOf file) buffer start
-        by true k = absurd (ne k)
-        by false k = rw k (sym (file-refuses b (fileOf file) buffer start (sym (number-is b e) ∙ z)))
-
-    pub visited-under : g .number ≡ 0 → visitRecord (fixedUp (r .read)) (g .file) buffer start ≡ visitBy (not (isFile file)) b (fileOf file) buffer start
-    visited-under k = by (isFile file) refl
-      where
-        by : (t : Bool) → isFile file ≡ t → visitRecord (fixedUp (r .read)) (g .file) buffer start ≡ visitBy (not t) b (fileOf file) buffer start
-        by true u = rw (ap (λ (a : FileAnswer). a .file) h ∙ file-read file u) (visited b r e buffer start (fileOf file) z)
-        by false u = absurd (omega (arith, sym file-is ∙ k, rw u at file-is))
+  pub visited-file :
+      {r u : ℕ} {x : Record} {f : RegisterFile} (file : List ℕ) → r ≡ recordRefusal b → r ≡ 0 → u ≡ fileRefusal file → u ≡ 0 → x ≡ recordOf b → f ≡ fileOf file
+      → visitRecord (fixedUp x) f buffer start ≡ visitBy (not (isFile file)) b (fileOf file) buffer start
+  visited-file file e z p q i j = rw (is-file file (sym p ∙ q), j) (visited (fileOf file) e z i)

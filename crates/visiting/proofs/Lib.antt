@@ -1,2 +1,3 @@
 pub mod Visits
 pub mod Calls
+pub mod Rooms

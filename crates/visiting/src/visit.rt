@@ -5,94 +5,141 @@ use refusals::is_nameless;
 use refusals::is_sizeless;
 use registers::RegisterFile;
 ghost use mathlib.Core.Path.{_≡_};
+ghost use mathlib.Core.Bool.{false};
+ghost use Prim.Native.Nat.{_≤_};
 ghost use lib.ListN.{length};
-ghost use Rattle.laws.specs.Lending.{lacksRoom};
-ghost use Rattle.registers.specs.Files.{fileWith};
+ghost use Rattle.definition.specs.Behaviors.{complex};
+ghost use Rattle.definition.specs.Refusals.{nameless, sizeless};
 ghost use Rattle.definition.specs.Visits.{visitUnder, visitOf};
-ghost use Rattle.visiting.specs.Records.{logBytes, firstRefusal, refusalIn, visitRecord};
+ghost use Rattle.visiting.specs.Records.{firstRefusal, visitRecord};
+ghost use Rattle.visiting.specs.Laying.{Within, laidOut};
 
 // No log is longer.
 pub const MOST_BYTES: usize = 177;
 
-// How long the log of a record is: it is written aside, and counted.
-fn log_length(x: Record, values: &[u64; 17], known: u32) -> usize
-    ensures { λ n. ⌜ n ≡ length (logBytes x (fileWith (now (values .entry)) known)) ⌝ }
+// Refusals 4, 5 and 6 of a record after fix-ups, in their order.
+fn refusal_of(x: Record) -> u8
+    ensures { λ r. ⌜ r ≡ firstRefusal (complex x) (nameless x) (sizeless x) false ⌝ }
 {
-    let mut aside = [0u8; MOST_BYTES];
-    steps::put_log(&mut aside, values, known, x)
-}
-
-// The log has no room from a start to the buffer's end. How long it is matters only where the longest has none.
-fn is_full(x: Record, values: &[u64; 17], known: u32, start: usize, end: usize) -> bool
-    ensures { λ r. ⌜ r ≡ lacksRoom (length (logBytes x (fileWith (now (values .entry)) known))) start end ⌝ }
-{
-    if laws::lacks_room(MOST_BYTES, start, end) {
-        laws::lacks_room(log_length(x, values, known), start, end)
-    } else {
-        false
-    }
-}
-
-// The last four tests of the table, in its order.
-fn first_refusal(complex: bool, nameless: bool, sizeless: bool, full: bool) -> u8
-    ensures { λ r. ⌜ r ≡ firstRefusal complex nameless sizeless full ⌝ }
-{
-    if complex {
+    if fixups::is_complex(x) {
         return 4;
     }
-    if nameless {
+    if is_nameless(x) {
         return 5;
     }
-    if sizeless {
+    if is_sizeless(x) {
         return 6;
-    }
-    if full {
-        return 7;
     }
     0
 }
 
-// The record is one after fix-ups. The values of the file are lent, with their known bits, to every writer.
-fn visit_record(x: Record, values: &[u64; 17], known: u32, log: &mut [u8], start: usize) -> Answer
-    ensures { λ r. ⌜ (r, now (log .exit)) ≡ visitRecord x (fileWith (now (values .entry)) known) (now (log .entry)) start ⌝ }
+// A record after fix-ups, where the longest log has room.
+fn visit_record(fixed: Record, f: RegisterFile, log: &mut [u8]) -> Answer
+    requires { ⌜ 177 ≤ length (now log) ⌝ }
+    ensures { λ r. ⌜ (r, now (log .exit)) ≡ visitRecord fixed f (now (log .entry)) 0 ⌝ }
 {
-    let full = is_full(x, values, known, start, log.len());
-    let number = first_refusal(fixups::is_complex(x), is_nameless(x), is_sizeless(x), full);
+    let refusal = refusal_of(fixed);
+    match refusal {
+        0 => {
+            let at = address::resolve(f, fixed);
+            Answer::Done(steps::put_log(log, fixed, at))
+        }
+        4 => Answer::Complex(fixed.opcode),
+        _ => Answer::Refused(refusal),
+    }
+}
+
+// Where the longest log has room. The file is parsed where it is asked: seventeen values held over the refusals would be copied twice.
+fn visit_roomy(b: &[u8], file: &[u8], log: &mut [u8]) -> Answer
+    requires { ⌜ 177 ≤ length (now log) ⌝ }
+    ensures { λ r. ⌜ (r, now (log .exit)) ≡ visitOf (now (b .entry)) (now (file .entry)) (now (log .entry)) 0 ⌝ }
+{
+    let unread = record::refusal_of(b);
+    if unread != 0 {
+        return Answer::Refused(unread);
+    }
+    let unfiled = registers::refusal_of(file);
+    if unfiled != 0 {
+        return Answer::Refused(unfiled);
+    }
+    let read = Record::parse(b);
+    let x = fixups::fixed_up(read);
+    let number = refusal_of(x);
     match number {
-        0 => Answer::Done(steps::put_log(&mut log[start..], values, known, x)),
+        0 => {
+            let at = address::resolve(RegisterFile::parse(file), x);
+            Answer::Done(steps::put_log(log, x, at))
+        }
         4 => Answer::Complex(x.opcode),
-        7 => Answer::Short(log_length(x, values, known)),
         _ => Answer::Refused(number),
     }
+}
+
+fn visit_roomy_under(b: &[u8], f: RegisterFile, log: &mut [u8]) -> Answer
+    requires { ⌜ 177 ≤ length (now log) ⌝ }
+    ensures { λ r. ⌜ (r, now (log .exit)) ≡ visitUnder (now (b .entry)) f (now (log .entry)) 0 ⌝ }
+{
+    let unread = record::refusal_of(b);
+    if unread != 0 {
+        return Answer::Refused(unread);
+    }
+    let read = Record::parse(b);
+    visit_record(fixups::fixed_up(read), f, log)
+}
+
+// What was written aside, laid into its place where it has room. Where it has none, the answer says how much it needs.
+fn lay(answer: Answer, aside: &[u8], log: &mut [u8], start: usize) -> Answer
+    requires { ⌜ Within answer (length (now aside)) ⌝ }
+    ensures { λ r. ⌜ (r, now (log .exit)) ≡ laidOut answer (now (aside .entry)) (now (log .entry)) start ⌝ }
+{
+    match answer {
+        Answer::Done(n) => {
+            if laws::lacks_room(n, start, log.len()) {
+                return Answer::Short(n);
+            }
+            bytes::copy(&aside[..n], &mut log[start..]);
+            Answer::Done(n)
+        }
+        Answer::Refused(number) => Answer::Refused(number),
+        Answer::Complex(opcode) => Answer::Complex(opcode),
+        Answer::Short(n) => Answer::Short(n),
+    }
+}
+
+// Where the longest log may have no room, it is written aside first.
+fn visit_tight(b: &[u8], file: &[u8], log: &mut [u8], start: usize) -> Answer
+    ensures { λ r. ⌜ (r, now (log .exit)) ≡ visitOf (now (b .entry)) (now (file .entry)) (now (log .entry)) start ⌝ }
+{
+    let mut aside = [0u8; MOST_BYTES];
+    let answer = visit_roomy(b, file, &mut aside);
+    lay(answer, &aside, log, start)
+}
+
+fn visit_tight_under(b: &[u8], f: RegisterFile, log: &mut [u8], start: usize) -> Answer
+    ensures { λ r. ⌜ (r, now (log .exit)) ≡ visitUnder (now (b .entry)) f (now (log .entry)) start ⌝ }
+{
+    let mut aside = [0u8; MOST_BYTES];
+    let answer = visit_roomy_under(b, f, &mut aside);
+    lay(answer, &aside, log, start)
 }
 
 // Under a register file that is parsed already.
 pub fn visit_under(b: &[u8], f: RegisterFile, log: &mut [u8], start: usize) -> Answer
     ensures { λ r. ⌜ (r, now (log .exit)) ≡ visitUnder (now (b .entry)) f (now (log .entry)) start ⌝ }
 {
-    let found = Record::from_bytes(b);
-    if found.number != 0 {
-        return Answer::Refused(found.number);
+    if laws::lacks_room(MOST_BYTES, start, log.len()) {
+        visit_tight_under(b, f, log, start)
+    } else {
+        visit_roomy_under(b, f, &mut log[start..])
     }
-    visit_record(fixups::fixed_up(found.read), &f.values, f.known, log, start)
 }
 
 pub fn visit_accesses(b: &[u8], file: &[u8], log: &mut [u8], start: usize) -> Answer
     ensures { λ r. ⌜ (r, now (log .exit)) ≡ visitOf (now (b .entry)) (now (file .entry)) (now (log .entry)) start ⌝ }
 {
-    let found = Record::from_bytes(b);
-    if found.number != 0 {
-        return Answer::Refused(found.number);
+    if laws::lacks_room(MOST_BYTES, start, log.len()) {
+        visit_tight(b, file, log, start)
+    } else {
+        visit_roomy(b, file, &mut log[start..])
     }
-    let parsed = RegisterFile::from_bytes(file);
-    if parsed.number != 0 {
-        return Answer::Refused(parsed.number);
-    }
-    visit_record(
-        fixups::fixed_up(found.read),
-        &parsed.file.values,
-        parsed.file.known,
-        log,
-        start,
-    )
 }

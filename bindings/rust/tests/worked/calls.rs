@@ -56,6 +56,30 @@ pub fn machhurel_difference(first: &[u8], second: &[u8], at: &mut u64) -> u64 {
     }
 }
 
+pub fn machhurel_block(
+    records: &[u8],
+    each: usize,
+    file: &[u8],
+    log: &mut [u8],
+    start: usize,
+    answers: &mut [u8],
+) -> u64 {
+    unsafe {
+        ffi::machhurel_block(
+            records.as_ptr(),
+            records.len(),
+            each,
+            file.as_ptr(),
+            file.len(),
+            log.as_mut_ptr(),
+            log.len(),
+            start,
+            answers.as_mut_ptr(),
+            answers.len(),
+        )
+    }
+}
+
 pub fn machhurel_append(session: &mut [u64; 3], record: &[u8], file: &[u8], log: &mut [u8]) -> u64 {
     unsafe {
         ffi::machhurel_append(

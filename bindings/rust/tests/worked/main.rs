@@ -1,5 +1,6 @@
 //! Worked records through every call. A row says what a call answers: all bits of the number, and all bytes of a buffer or words of
 //! a watch or a session, those that stay too. The expected values were worked out by hand.
+mod blocks;
 mod calls;
 mod differences;
 mod digests;

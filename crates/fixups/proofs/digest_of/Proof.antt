@@ -1,23 +1,38 @@
--- `digest_of` meets its contract: the fix-up where nontrivial is set, and the base digest otherwise. Assumes nothing.
-use borrow.Author.Needs.{needs}
 use mathlib.Core.Path.{sym, _∙_}
+use Rattle.definition.specs.Tables.{ruleOf}
 use Rattle.definition.specs.Behaviors.{digestOf}
+use Rattle.fixups.proofs.Narrow.{narrow}
+use borrow.Author.Needs.{needs}
 use Rattle.fixups.proofs.digest_of.Statement.{statement}
 use Rattle.fixups.proofs.digest_of.Tie as tie
 
 is-nontrivial-requires : tie.Need-is-nontrivial-requires
 is-nontrivial-requires c κs = search needs
 
-fix-up-requires : tie.Need-fix-up-requires
-fix-up-requires c κs = search needs
+element-copy-out-fix-fields : tie.Need-element-copy-out-fix-fields
+element-copy-out-fix-fields c = search needs
+
+element-copy-out-fix-fields-2 : tie.Need-element-copy-out-fix-fields-2
+element-copy-out-fix-fields-2 c = search needs
+
+fix-fields-requires : tie.Need-fix-fields-requires
+fix-fields-requires c κs = search needs
 
 returns : tie.Need-returns
 unfolding digestOf
-returns c = rw (sym (c .before .before .is-nontrivial .ensures) ∙ c .before .if1 .taken) (c .fix-up .ensures)
+returns c = rw (sym (c .before .before .before .is-nontrivial .ensures) ∙ c .before .before .if1 .taken) (c .fix-fields .ensures ∙ narrow (ruleOf (c .before .before .before .before .before .args .t1 .opcode)) (c .before .before .before .before .before .args .t1) (c .before .before .before .before .before .args .t1 .digest))
 
 returns-2 : tie.Need-returns-2
 unfolding digestOf
 returns-2 c = rw (sym (c .before .is-nontrivial .ensures) ∙ c .if1 .left)
 
 pub digest-of-spec : {M : Type 1} → statement M
-digest-of-spec = tie.close (tie.spec is-nontrivial-requires fix-up-requires returns returns-2)
+digest-of-spec =
+    tie.close
+    (tie.spec
+    is-nontrivial-requires
+    element-copy-out-fix-fields
+    element-copy-out-fix-fields-2
+    fix-fields-requires
+    returns
+    returns-2)

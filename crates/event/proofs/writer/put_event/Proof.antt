@@ -1,11 +1,5 @@
--- Each event has room, and its bytes are those of its kind and body. Assumes nothing.
+use Rattle.definition.specs.Logs.{memoryEvent}
 use borrow.Author.Needs.{needs}
-use Rattle.laws.specs.Words.{little}
-use Rattle.laws.specs.Lending.{size}
-use Rattle.laws.specs.Lists.{each}
-use Rattle.definition.specs.declared.Event.the-variants.{RegisterRead, RegisterWrite, MemoryRead, MemoryWrite, UnknownRead, UnknownWrite}
-use Rattle.definition.specs.Logs.{eventBytes}
-use Rattle.laws.proofs.OneByOne.{logged}
 use Rattle.event.proofs.writer.put_event.Statement.{statement}
 use Rattle.event.proofs.writer.put_event.Tie as tie
 
@@ -13,85 +7,81 @@ enum-known-e : tie.Need-enum-known-e
 enum-known-e c = search needs
 
 put-register-requires : tie.Need-put-register-requires
-unfolding size each eventBytes
 put-register-requires c κs = rw (c .before .before .e .given .1) at (c .before .before .before .before .before .pre)
 
 enum-known-e-2 : tie.Need-enum-known-e-2
 enum-known-e-2 c = search needs
 
 put-register-requires-2 : tie.Need-put-register-requires-2
-unfolding size each eventBytes
 put-register-requires-2 c κs = rw (c .before .before .e2 .given .1) at (c .before .before .before .before .before .pre)
 
 enum-known-e-3 : tie.Need-enum-known-e-3
 enum-known-e-3 c = search needs
 
-put-known-requires : tie.Need-put-known-requires
-unfolding size each eventBytes little
-put-known-requires c κs = rw (c .before .before .e3 .given .1) at (c .before .before .before .before .before .pre)
+put-memory-requires : tie.Need-put-memory-requires
+unfolding memoryEvent
+put-memory-requires c κs = rw (c .before .before .e3 .given .1) at (c .before .before .before .before .before .pre)
 
 enum-known-e-4 : tie.Need-enum-known-e-4
 enum-known-e-4 c = search needs
 
-put-known-requires-2 : tie.Need-put-known-requires-2
-unfolding size each eventBytes little
-put-known-requires-2 c κs = rw (c .before .before .e4 .given .1) at (c .before .before .before .before .before .pre)
+put-memory-requires-2 : tie.Need-put-memory-requires-2
+unfolding memoryEvent
+put-memory-requires-2 c κs = rw (c .before .before .e4 .given .1) at (c .before .before .before .before .before .pre)
 
 enum-known-e-5 : tie.Need-enum-known-e-5
 enum-known-e-5 c = search needs
 
-put-unknown-requires : tie.Need-put-unknown-requires
-unfolding size each eventBytes
-put-unknown-requires c κs = rw (c .before .before .e5 .given .1) at (c .before .before .before .before .before .pre)
+put-memory-requires-3 : tie.Need-put-memory-requires-3
+unfolding memoryEvent
+put-memory-requires-3 c κs = rw (c .before .before .e5 .given .1) at (c .before .before .before .before .before .pre)
 
 enum-known-e-6 : tie.Need-enum-known-e-6
 enum-known-e-6 c = search needs
 
-put-unknown-requires-2 : tie.Need-put-unknown-requires-2
-unfolding size each eventBytes
-put-unknown-requires-2 c κs = rw (c .before .before .e6 .given .1) at (c .before .before .before .before .before .pre)
+put-memory-requires-4 : tie.Need-put-memory-requires-4
+unfolding memoryEvent
+put-memory-requires-4 c κs = rw (c .before .before .e6 .given .1) at (c .before .before .before .before .before .pre)
 
 same-length : tie.Need-same-length
 same-length c = search needs
 
 returns : tie.Need-returns
-unfolding eventBytes
-returns c = rw (c .before .before .before .before .before .e .given .1) (logged eventBytes (RegisterRead _) (c .before .before .put-register .ensures))
+returns c = rw (c .before .before .before .before .before .e .given .1) (c .before .before .put-register .ensures)
 
 same-length-2 : tie.Need-same-length-2
 same-length-2 c = search needs
 
 returns-2 : tie.Need-returns-2
-unfolding eventBytes
-returns-2 c = rw (c .before .before .before .before .before .e2 .given .1) (logged eventBytes (RegisterWrite _) (c .before .before .put-register2 .ensures))
+returns-2 c = rw (c .before .before .before .before .before .e2 .given .1) (c .before .before .put-register2 .ensures)
 
 same-length-3 : tie.Need-same-length-3
 same-length-3 c = search needs
 
 returns-3 : tie.Need-returns-3
-unfolding eventBytes little
-returns-3 c = rw (c .before .before .before .before .before .e3 .given .1) (logged eventBytes (MemoryRead _ _) (c .before .before .put-known .ensures))
+unfolding memoryEvent
+returns-3 c = rw (c .before .before .before .before .before .e3 .given .1) (c .before .before .put-memory .ensures)
 
 same-length-4 : tie.Need-same-length-4
 same-length-4 c = search needs
 
 returns-4 : tie.Need-returns-4
-unfolding eventBytes little
-returns-4 c = rw (c .before .before .before .before .before .e4 .given .1) (logged eventBytes (MemoryWrite _ _) (c .before .before .put-known2 .ensures))
+unfolding memoryEvent
+returns-4 c = rw (c .before .before .before .before .before .e4 .given .1) (c .before .before .put-memory2 .ensures)
 
 same-length-5 : tie.Need-same-length-5
 same-length-5 c = search needs
 
 returns-5 : tie.Need-returns-5
-unfolding eventBytes
-returns-5 c = rw (c .before .before .before .before .before .e5 .given .1) (logged eventBytes (UnknownRead _) (c .before .before .put-unknown .ensures))
+unfolding memoryEvent
+returns-5 c = rw (c .before .before .before .before .before .e5 .given .1) (c .before .before .put-memory3 .ensures)
 
 same-length-6 : tie.Need-same-length-6
 same-length-6 c = search needs
 
 returns-6 : tie.Need-returns-6
-unfolding eventBytes
-returns-6 c = rw (c .before .before .before .before .before .e6 .given .1) (logged eventBytes (UnknownWrite _) (c .before .before .put-unknown2 .ensures))
+unfolding memoryEvent
+returns-6 c = rw (c .before .before .before .before .before .e6 .given .1) (c .before .before .put-memory4 .ensures)
 
 pub put-event-spec : {M : Type 1} → statement M
 put-event-spec =
@@ -102,13 +92,13 @@ put-event-spec =
     enum-known-e-2
     put-register-requires-2
     enum-known-e-3
-    put-known-requires
+    put-memory-requires
     enum-known-e-4
-    put-known-requires-2
+    put-memory-requires-2
     enum-known-e-5
-    put-unknown-requires
+    put-memory-requires-3
     enum-known-e-6
-    put-unknown-requires-2
+    put-memory-requires-4
     same-length
     returns
     same-length-2

@@ -1,95 +1,79 @@
--- The way and the value decide the event, as in the definition. Assumes nothing.
+use native.Mathlib.Omega.{arith}
+use mathlib.Core.Path.{refl}
+use lib.Seq.{sets-eq}
+use lib.ListN.{length-set, length-take, length-drop}
+use Rattle.definition.specs.Logs.{unknownBytes}
+use Rattle.event.proofs.Writing.{keeps-length, known-length, known-bytes}
+use Rattle.event.proofs.ByWay.{known-room, known-logged, unknown-room, unknown-logged}
 use borrow.Author.Needs.{needs}
-use Rattle.laws.specs.Words.{little}
-use Rattle.laws.specs.Lending.{size}
-use Rattle.laws.specs.Lists.{each}
-use Rattle.definition.specs.declared.Event.the-variants.{MemoryRead, MemoryWrite, UnknownRead, UnknownWrite}
-use Rattle.definition.specs.Logs.{eventBytes, memoryEvent}
-use Rattle.laws.proofs.OneByOne.{logged}
 use Rattle.event.proofs.writer.put_memory.Statement.{statement}
 use Rattle.event.proofs.writer.put_memory.Tie as tie
-
-enum-told : tie.Need-enum-told
-enum-told c = search needs
 
 enum-known-at : tie.Need-enum-known-at
 enum-known-at c = search needs
 
-put-known-requires : tie.Need-put-known-requires
-unfolding size each eventBytes memoryEvent little
-put-known-requires c κs = rw (c .before .before .before .before .enum-told .given .1, c .before .before .at .given .1) at (c .before .before .before .before .before .before .before .pre)
+kind-of-requires : tie.Need-kind-of-requires
+kind-of-requires c κs = search needs
 
-enum-told-2 : tie.Need-enum-told-2
-enum-told-2 c = search needs
+slice-write-log : tie.Need-slice-write-log
+slice-write-log c = omega (arith, (known-room (c .before .before .before .before .before .args .way) (c .before .before .at .given .0 .0) (c .before .before .before .before .before .args .n) (rw (c .before .before .at .given .1) at (c .before .before .before .before .before .pre))))
 
-put-unknown-requires : tie.Need-put-unknown-requires
-unfolding size each eventBytes memoryEvent
-put-unknown-requires c κs = rw (c .before .before .before .enum-told .given .1, c .before .enum-told2 .given .1) at (c .before .before .before .before .before .before .pre)
+sub-put-u64 : tie.Need-sub-put-u64
+sub-put-u64 c = simp length-set (omega (arith, (known-room (c .before .before .before .before .before .args .way) (c .before .before .at .given .0 .0) (c .before .before .before .before .before .args .n) (rw (c .before .before .at .given .1) at (c .before .before .before .before .before .pre)))))
 
-enum-told-3 : tie.Need-enum-told-3
-enum-told-3 c = search needs
+part-put-u64-start : tie.Need-part-put-u64-start
+part-put-u64-start c = simp length-set (omega (arith, (known-room (c .before .before .before .before .before .args .way) (c .before .before .at .given .0 .0) (c .before .before .before .before .before .args .n) (rw (c .before .before .at .given .1) at (c .before .before .before .before .before .pre)))))
 
-enum-known-at-2 : tie.Need-enum-known-at-2
-enum-known-at-2 c = search needs
+part-put-u64-end : tie.Need-part-put-u64-end
+part-put-u64-end c = search needs
 
-put-known-requires-2 : tie.Need-put-known-requires-2
-unfolding size each eventBytes memoryEvent little
-put-known-requires-2 c κs = rw (c .before .before .before .before .enum-told3 .given .1, c .before .before .at2 .given .1) at (c .before .before .before .before .before .before .before .pre)
+put-u64-requires : tie.Need-put-u64-requires
+put-u64-requires c κs = simp (length-take, length-drop, length-set) (omega (arith, (known-room (c .before .before .before .before .before .before .args .way) (c .before .before .before .at .given .0 .0) (c .before .before .before .before .before .before .args .n) (rw (c .before .before .before .at .given .1) at (c .before .before .before .before .before .before .pre)))))
 
-enum-told-4 : tie.Need-enum-told-4
-enum-told-4 c = search needs
+slice-write-log-2 : tie.Need-slice-write-log-2
+slice-write-log-2 c = omega (arith, (known-room (c .before .before .before .before .before .before .before .before .before .args .way) (c .before .before .before .before .before .before .at .given .0 .0) (c .before .before .before .before .before .before .before .before .before .args .n) (rw (c .before .before .before .before .before .before .at .given .1) at (c .before .before .before .before .before .before .before .before .before .pre))), keeps-length (c .before .before .before .before .kind-of .result) (c .before .before .before .before .before .before .at .given .0 .0) (c .before .before .before .before .before .before .before .before .before .args .log .now) (known-room (c .before .before .before .before .before .before .before .before .before .args .way) (c .before .before .before .before .before .before .at .given .0 .0) (c .before .before .before .before .before .before .before .before .before .args .n) (rw (c .before .before .before .before .before .before .at .given .1) at (c .before .before .before .before .before .before .before .before .before .pre))) (c .before .before .put-u64 .ensures))
 
-put-unknown-requires-2 : tie.Need-put-unknown-requires-2
-unfolding size each eventBytes memoryEvent
-put-unknown-requires-2 c κs = rw (c .before .before .before .enum-told3 .given .1, c .before .enum-told4 .given .1) at (c .before .before .before .before .before .before .pre)
+enum-told : tie.Need-enum-told
+enum-told c = search needs
+
+kind-of-requires-2 : tie.Need-kind-of-requires-2
+kind-of-requires-2 c κs = search needs
+
+slice-write-log-3 : tie.Need-slice-write-log-3
+slice-write-log-3 c = omega (arith, (unknown-room (c .before .before .before .before .args .way) (c .before .before .before .before .args .n) (rw (c .before .enum-told .given .1) at (c .before .before .before .before .pre))))
+
+slice-write-log-4 : tie.Need-slice-write-log-4
+slice-write-log-4 c = simp length-set (omega (arith, (unknown-room (c .before .before .before .before .args .way) (c .before .before .before .before .args .n) (rw (c .before .enum-told .given .1) at (c .before .before .before .before .pre)))))
 
 same-length : tie.Need-same-length
-same-length c = search needs
+same-length c = known-length (c .before .before .before .before .kind-of .result) (c .before .before .before .before .before .before .at .given .0 .0) (c .before .before .before .before .before .before .before .before .before .args .log .now) (known-room (c .before .before .before .before .before .before .before .before .before .args .way) (c .before .before .before .before .before .before .at .given .0 .0) (c .before .before .before .before .before .before .before .before .before .args .n) (rw (c .before .before .before .before .before .before .at .given .1) at (c .before .before .before .before .before .before .before .before .before .pre))) (c .before .before .put-u64 .ensures) (c .before .before .before .before .before .before .before .before .before .args .n)
 
 returns : tie.Need-returns
-unfolding eventBytes memoryEvent little
-returns c = rw (c .before .before .before .before .before .before .before .enum-told .given .1, c .before .before .before .before .before .at .given .1) (logged eventBytes (MemoryRead _ _) (c .before .before .put-known .ensures))
+returns c = rw (c .before .before .before .before .before .before .at .given .1) (known-logged (c .before .before .before .before .before .before .before .before .before .args .way) (c .before .before .before .before .before .before .at .given .0 .0) (c .before .before .before .before .before .before .before .before .before .args .n) (c .before .before .before .before .kind-of .ensures) refl (known-bytes (c .before .before .before .before .kind-of .result) (c .before .before .before .before .before .before .at .given .0 .0) (c .before .before .before .before .before .before .before .before .before .args .log .now) (known-room (c .before .before .before .before .before .before .before .before .before .args .way) (c .before .before .before .before .before .before .at .given .0 .0) (c .before .before .before .before .before .before .before .before .before .args .n) (rw (c .before .before .before .before .before .before .at .given .1) at (c .before .before .before .before .before .before .before .before .before .pre))) (c .before .before .put-u64 .ensures) (c .before .before .before .before .before .before .before .before .before .args .n)))
 
 same-length-2 : tie.Need-same-length-2
 same-length-2 c = search needs
 
 returns-2 : tie.Need-returns-2
-unfolding eventBytes memoryEvent
-returns-2 c = rw (c .before .before .before .before .before .before .enum-told .given .1, c .before .before .before .before .enum-told2 .given .1) (logged eventBytes (UnknownRead _) (c .before .before .put-unknown .ensures))
-
-same-length-3 : tie.Need-same-length-3
-same-length-3 c = search needs
-
-returns-3 : tie.Need-returns-3
-unfolding eventBytes memoryEvent little
-returns-3 c = rw (c .before .before .before .before .before .before .before .enum-told3 .given .1, c .before .before .before .before .before .at2 .given .1) (logged eventBytes (MemoryWrite _ _) (c .before .before .put-known2 .ensures))
-
-same-length-4 : tie.Need-same-length-4
-same-length-4 c = search needs
-
-returns-4 : tie.Need-returns-4
-unfolding eventBytes memoryEvent
-returns-4 c = rw (c .before .before .before .before .before .before .enum-told3 .given .1, c .before .before .before .before .enum-told4 .given .1) (logged eventBytes (UnknownWrite _) (c .before .before .put-unknown2 .ensures))
+returns-2 c = rw (c .before .enum-told .given .1) (unknown-logged (c .before .before .before .before .args .way) (c .before .before .before .before .args .n) (c .kind-of2 .ensures) refl (sets-eq (unknownBytes (c .kind-of2 .result) (c .before .before .before .before .args .n)) (c .before .before .before .before .args .log .now) 0 (unknown-room (c .before .before .before .before .args .way) (c .before .before .before .before .args .n) (rw (c .before .enum-told .given .1) at (c .before .before .before .before .pre)))))
 
 pub put-memory-spec : {M : Type 1} → statement M
 put-memory-spec =
     tie.close
     (tie.spec
-    enum-told
     enum-known-at
-    put-known-requires
-    enum-told-2
-    put-unknown-requires
-    enum-told-3
-    enum-known-at-2
-    put-known-requires-2
-    enum-told-4
-    put-unknown-requires-2
+    kind-of-requires
+    slice-write-log
+    sub-put-u64
+    part-put-u64-start
+    part-put-u64-end
+    put-u64-requires
+    slice-write-log-2
+    enum-told
+    kind-of-requires-2
+    slice-write-log-3
+    slice-write-log-4
     same-length
     returns
     same-length-2
-    returns-2
-    same-length-3
-    returns-3
-    same-length-4
-    returns-4)
+    returns-2)

@@ -1,5 +1,4 @@
 use borrow.Author.Needs.{needs}
-use Rattle.digest.proofs.Laws.{flags-number}
 use Prim.Native.Nat.{_+_, _≤_}
 use mathlib.Core.List.{List, [], _∷_}
 use denote.Ref.{now}
@@ -7,180 +6,136 @@ use lib.ListN.{length}
 use Rattle.laws.specs.Lists.{flat}
 use Rattle.laws.specs.Lending.{size}
 use Rattle.laws.proofs.Lending.{Going, first, next, inside, fits, fits-first, ends, whole, keeps, back}
-use mathlib.Core.Path.{_≡_, ap, _∙_}
-use Rattle.laws.specs.Lists.{each}
-use Rattle.access.specs.Accesses.{reading, writing}
-use Rattle.digest.specs.Digests.{flagsAccess}
-use Rattle.implicit.specs.Lists.{implicitOf}
-use Rattle.implicit.specs.declared.Way.the-variants.{Read, Write}
-use Rattle.definition.specs.Behaviors.{operandsOf}
-use Rattle.definition.specs.Steps.{Step, rflags, entrySteps, operandSteps}
-use Rattle.definition.specs.Logs.{stepBytes}
-use Rattle.steps.proofs.Events.{logged-if, room-if}
-use Rattle.steps.proofs.Flags.{flagsRead, flagsWrite, steps-split}
-use Rattle.registers.specs.Files.{fileWith}
-use Rattle.registers.specs.declared.RegisterFile.{RegisterFile}
+use Rattle.definition.specs.Logs.{eventBytes}
+use Rattle.definition.specs.declared.Event.{Event}
+use Rattle.steps.specs.Parts.{explicitEvents}
+use Rattle.implied.specs.Implied.{listEvents}
+use Rattle.steps.specs.Whole.{flagsRead, flagsWrite, logEvents}
 use Rattle.steps.proofs.log.put_log.Statement.{statement}
 use Rattle.steps.proofs.log.put_log.Tie as tie
 
-abbrev file : tie.Start → RegisterFile
-file s = fileWith (now (s .args .values)) (s .args .known)
+abbrev seg0 : tie.Start → List Event
+seg0 s = listEvents (s .args .x) (s .args .at .implied) (s .args .x .digest .extra)
 
-abbrev implicits : tie.Start → List Step
-implicits s = each (entrySteps (s .args .x)) (implicitOf (s .args .x .digest .extra))
+abbrev seg1 : tie.Start → List Event
+seg1 s = flagsRead (s .args .x)
 
-abbrev read : tie.Start → List Step
-read s = flagsRead (s .args .x)
+abbrev seg2 : tie.Start → List Event
+seg2 s = flagsWrite (s .args .x)
 
-abbrev written : tie.Start → List Step
-written s = flagsWrite (s .args .x)
+abbrev seg3 : tie.Start → List Event
+seg3 s = explicitEvents (s .args .x) (s .args .at)
 
-abbrev explicits : tie.Start → List Step
-explicits s = each (operandSteps (s .args .x)) (operandsOf (s .args .x))
+abbrev every : tie.Start → List Event
+every s = flat (seg0 s ∷ seg1 s ∷ seg2 s ∷ seg3 s ∷ [])
 
-abbrev all : tie.Start → List Step
-all s = flat (implicits s ∷ read s ∷ written s ∷ explicits s ∷ [])
+room : (s : tie.Start) → size eventBytes (every s) ≤ length (now (s .args .log))
+unfolding logEvents
+room s = s .pre
 
--- what is asked of the record
-read-is :
-    (c : tie.After-is-write) → c .before .is-read .result ≡ reading (flagsAccess (c .before .before .before .before .before .args .x .digest))
-read-is c = c .before .is-read .ensures ∙ ap reading (flags-number (c .before .before .before .before .before .args .x .digest) (c .before .before .flags-access .ensures))
+one : (c : tie.After-put-list) → let s = c .before .before .before in
+    Going eventBytes (every s) (seg1 s ∷ seg2 s ∷ seg3 s ∷ []) (now (s .args .log)) (c .put-list .last .0) (c .put-list .result)
+unfolding logEvents
+one c = let s = c .before .before .before in first {seg = seg0 s} (seg1 s ∷ seg2 s ∷ seg3 s ∷ []) (c .put-list .ensures) (room s) (s .good .0 .0)
 
-write-is :
-    (c : tie.After-is-write) → c .is-write .result ≡ writing (flagsAccess (c .before .before .before .before .before .args .x .digest))
-write-is c = c .is-write .ensures ∙ ap writing (flags-number (c .before .before .before .before .before .args .x .digest) (c .before .before .flags-access .ensures))
+two : (c : tie.After-put-flags-read) → let s = c .before .before .before .before .before .before .before in
+    Going eventBytes (every s) (seg2 s ∷ seg3 s ∷ []) (now (s .args .log)) (back (c .before .before .before .before .put-list .last .0) (c .before .before .before .before .put-list .result) (c .put-flags-read .last .0)) ((c .before .before .before .before .put-list .result) + c .put-flags-read .result)
+unfolding logEvents
+two c = next (one (c .before .before .before .before)) (c .put-flags-read .ensures)
 
-room : (s : tie.Start) → size (stepBytes (file s)) (all s) ≤ length (now (s .args .log))
-room s = rw (steps-split (s .args .x)) at (s .pre)
+three : (c : tie.After-put-flags-write) → let s = c .before .before .before .before .before .before .before .before .before .before .before in
+    Going eventBytes (every s) (seg3 s ∷ []) (now (s .args .log)) (back (back (c .before .before .before .before .before .before .before .before .put-list .last .0) (c .before .before .before .before .before .before .before .before .put-list .result) (c .before .before .before .before .put-flags-read .last .0)) ((c .before .before .before .before .before .before .before .before .put-list .result) + c .before .before .before .before .put-flags-read .result) (c .put-flags-write .last .0)) (((c .before .before .before .before .before .before .before .before .put-list .result) + c .before .before .before .before .put-flags-read .result) + c .put-flags-write .result)
+unfolding logEvents
+three c = next (two (c .before .before .before .before)) (c .put-flags-write .ensures)
 
-one :
-    (c : tie.After-put-entries) → let s = c .before .before .before .before .before .before .before in
-    let p = c .put-entries in
-    Going (stepBytes (file s)) (all s) (read s ∷ written s ∷ explicits s ∷ []) (now (s .args .log)) (p .last .0) (p .result)
-one c =
-    let s = c .before .before .before .before .before .before .before in
-    first (read s ∷ written s ∷ explicits s ∷ []) (c .put-entries .ensures) (room s) (s .good .0 .0)
-
-two :
-    (c : tie.After-put-flags) → let s = c .before .before .before .before .before .before .before .before .before .before .before in
-    let p = c .before .before .before .before .put-entries in
-    let q = c .put-flags in
-    Going (stepBytes (file s)) (all s) (written s ∷ explicits s ∷ []) (now (s .args .log)) (back (p .last .0) (p .result) (q .last .0)) (p .result + q .result)
-two c =
-    let s = c .before .before .before .before .before .before .before .before .before .before .before in
-    next (one (c .before .before .before .before)) (rw (read-is (c .before .before .before .before .before .before)) at (logged-if (file s) Read (c .before .before .before .before .before .before .before .is-read .result) rflags (c .put-flags .ensures)))
-
-three :
-    (c : tie.After-put-flags2) → let s = c .before .before .before .before .before .before .before .before .before .before .before .before .before .before .before in
-    let p = c .before .before .before .before .before .before .before .before .put-entries in
-    let q = c .before .before .before .before .put-flags in
-    let r = c .put-flags2 in
-    Going (stepBytes (file s)) (all s) (explicits s ∷ []) (now (s .args .log)) (back (back (p .last .0) (p .result) (q .last .0)) (p .result + q .result) (r .last .0)) (p .result + q .result + r .result)
-three c =
-    let s = c .before .before .before .before .before .before .before .before .before .before .before .before .before .before .before in
-    next (two (c .before .before .before .before)) (rw (write-is (c .before .before .before .before .before .before .before .before .before .before)) at (logged-if (file s) Write (c .before .before .before .before .before .before .before .before .before .before .is-write .result) rflags (c .put-flags2 .ensures)))
-
-four :
-    (c : tie.After-put-operands) → let s = c .before .before .before .before .before .before .before .before .before .before .before .before .before .before .before .before .before .before .before in
-    let p = c .before .before .before .before .before .before .before .before .before .before .before .before .put-entries in
-    let q = c .before .before .before .before .before .before .before .before .put-flags in
-    let r = c .before .before .before .before .put-flags2 in
-    let t = c .put-operands in
-    Going (stepBytes (file s)) (all s) [] (now (s .args .log)) (back (back (back (p .last .0) (p .result) (q .last .0)) (p .result + q .result) (r .last .0)) (p .result + q .result + r .result) (t .last .0)) (p .result + q .result + r .result + t .result)
+four : (c : tie.After-put-operands) → let s = c .before .before .before .before .before .before .before .before .before .before .before .before .before .before .before in
+    Going eventBytes (every s) ([]) (now (s .args .log)) (back (back (back (c .before .before .before .before .before .before .before .before .before .before .before .before .put-list .last .0) (c .before .before .before .before .before .before .before .before .before .before .before .before .put-list .result) (c .before .before .before .before .before .before .before .before .put-flags-read .last .0)) ((c .before .before .before .before .before .before .before .before .before .before .before .before .put-list .result) + c .before .before .before .before .before .before .before .before .put-flags-read .result) (c .before .before .before .before .put-flags-write .last .0)) (((c .before .before .before .before .before .before .before .before .before .before .before .before .put-list .result) + c .before .before .before .before .before .before .before .before .put-flags-read .result) + c .before .before .before .before .put-flags-write .result) (c .put-operands .last .0)) ((((c .before .before .before .before .before .before .before .before .before .before .before .before .put-list .result) + c .before .before .before .before .before .before .before .before .put-flags-read .result) + c .before .before .before .before .put-flags-write .result) + c .put-operands .result)
+unfolding logEvents
 four c = next (three (c .before .before .before .before)) (c .put-operands .ensures)
 
-flags-access-requires : tie.Need-flags-access-requires
-flags-access-requires c κs = search needs
+put-list-requires : tie.Need-put-list-requires
+unfolding logEvents
+put-list-requires c κs = let s = c .before .before in fits-first eventBytes (seg0 s) (seg1 s ∷ seg2 s ∷ seg3 s ∷ []) (room s)
 
-is-read-requires : tie.Need-is-read-requires
-is-read-requires c κs = search needs
+sub-put-flags-read : tie.Need-sub-put-flags-read
+unfolding logEvents
+sub-put-flags-read c = inside (one (c .before .before))
 
-is-write-requires : tie.Need-is-write-requires
-is-write-requires c κs = search needs
+part-put-flags-read-start : tie.Need-part-put-flags-read-start
+unfolding logEvents
+part-put-flags-read-start c = inside (one (c .before .before))
 
-put-entries-requires : tie.Need-put-entries-requires
-put-entries-requires c κs =
-    let s = c .before .before .before .before .before .before in
-    fits-first (stepBytes (file s)) (implicits s) (read s ∷ written s ∷ explicits s ∷ []) (room s)
+part-put-flags-read-end : tie.Need-part-put-flags-read-end
+part-put-flags-read-end c = search needs
 
-sub-put-flags : tie.Need-sub-put-flags
-sub-put-flags c = inside (one (c .before .before))
-
-part-put-flags-start : tie.Need-part-put-flags-start
-part-put-flags-start c = inside (one (c .before .before))
-
-part-put-flags-end : tie.Need-part-put-flags-end
-part-put-flags-end c = search needs
-
-put-flags-requires : tie.Need-put-flags-requires
-put-flags-requires c κs =
-    let s = c .before .before .before .before .before .before .before .before .before .before in
-    room-if (file s) Read (c .before .before .before .before .before .before .is-read .result) rflags (rw (read-is (c .before .before .before .before .before)) (fits (one (c .before .before .before))))
+put-flags-read-requires : tie.Need-put-flags-read-requires
+unfolding logEvents
+put-flags-read-requires c κs = fits (one (c .before .before .before))
 
 add-b : tie.Need-add-b
-add-b c =
-    let s = c .before .before .before .before .before .before .before .before .before .before .before .before .before in
-    ends (one (c .before .before .before .before .before .before)) (rw (read-is (c .before .before .before .before .before .before .before .before)) at (logged-if (file s) Read (c .before .before .before .before .before .before .before .before .before .is-read .result) rflags (c .before .before .put-flags .ensures)))
+unfolding logEvents
+add-b c = ends (one (c .before .before .before .before .before .before)) (c .before .before .put-flags-read .ensures)
 
-sub-put-flags-2 : tie.Need-sub-put-flags-2
-sub-put-flags-2 c = inside (two (c .before .before))
+sub-put-flags-write : tie.Need-sub-put-flags-write
+unfolding logEvents
+sub-put-flags-write c = inside (two (c .before .before))
 
-part-put-flags-start-2 : tie.Need-part-put-flags-start-2
-part-put-flags-start-2 c = inside (two (c .before .before))
+part-put-flags-write-start : tie.Need-part-put-flags-write-start
+unfolding logEvents
+part-put-flags-write-start c = inside (two (c .before .before))
 
-part-put-flags-end-2 : tie.Need-part-put-flags-end-2
-part-put-flags-end-2 c = search needs
+part-put-flags-write-end : tie.Need-part-put-flags-write-end
+part-put-flags-write-end c = search needs
 
-put-flags-requires-2 : tie.Need-put-flags-requires-2
-put-flags-requires-2 c κs =
-    let s = c .before .before .before .before .before .before .before .before .before .before .before .before .before .before in
-    room-if (file s) Write (c .before .before .before .before .before .before .before .before .before .is-write .result) rflags (rw (write-is (c .before .before .before .before .before .before .before .before .before)) (fits (two (c .before .before .before))))
+put-flags-write-requires : tie.Need-put-flags-write-requires
+unfolding logEvents
+put-flags-write-requires c κs = fits (two (c .before .before .before))
 
 add-c : tie.Need-add-c
-add-c c =
-    let s = c .before .before .before .before .before .before .before .before .before .before .before .before .before .before .before .before .before in
-    ends (two (c .before .before .before .before .before .before)) (rw (write-is (c .before .before .before .before .before .before .before .before .before .before .before .before)) at (logged-if (file s) Write (c .before .before .before .before .before .before .before .before .before .before .before .before .is-write .result) rflags (c .before .before .put-flags2 .ensures)))
+unfolding logEvents
+add-c c = ends (two (c .before .before .before .before .before .before)) (c .before .before .put-flags-write .ensures)
 
 sub-put-operands : tie.Need-sub-put-operands
+unfolding logEvents
 sub-put-operands c = inside (three (c .before .before))
 
 part-put-operands-start : tie.Need-part-put-operands-start
+unfolding logEvents
 part-put-operands-start c = inside (three (c .before .before))
 
 part-put-operands-end : tie.Need-part-put-operands-end
 part-put-operands-end c = search needs
 
 put-operands-requires : tie.Need-put-operands-requires
+unfolding logEvents
 put-operands-requires c κs = fits (three (c .before .before .before))
 
 add-result : tie.Need-add-result
+unfolding logEvents
 add-result c = ends (three (c .before .before .before .before .before .before)) (c .before .before .put-operands .ensures)
 
 same-length : tie.Need-same-length
+unfolding logEvents
 same-length c = keeps (four (c .before .before))
 
 returns : tie.Need-returns
-returns c =
-    let s = c .before .before .before .before .before .before .before .before .before .before .before .before .before .before .before .before .before .before .before .before .before in
-    rw (steps-split (s .args .x)) (whole (four (c .before .before)))
+unfolding logEvents
+returns c = whole (four (c .before .before))
 
 pub put-log-spec : {M : Type 1} → statement M
 put-log-spec =
     tie.close
     (tie.spec
-    flags-access-requires
-    is-read-requires
-    is-write-requires
-    put-entries-requires
-    sub-put-flags
-    part-put-flags-start
-    part-put-flags-end
-    put-flags-requires
+    put-list-requires
+    sub-put-flags-read
+    part-put-flags-read-start
+    part-put-flags-read-end
+    put-flags-read-requires
     add-b
-    sub-put-flags-2
-    part-put-flags-start-2
-    part-put-flags-end-2
-    put-flags-requires-2
+    sub-put-flags-write
+    part-put-flags-write-start
+    part-put-flags-write-end
+    put-flags-write-requires
     add-c
     sub-put-operands
     part-put-operands-start

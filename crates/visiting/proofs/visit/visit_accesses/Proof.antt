@@ -1,50 +1,55 @@
-use Rattle.visiting.proofs.Calls.{bad-record, bad-file, visited-under}
-use Rattle.registers.specs.Files.{fileOf, isFile}
-use mathlib.Core.Bool.{not}
+use mathlib.Core.Path.{sym, _∙_}
 use denote.Ref.{now}
+use lib.ListN.{length}
+use mathlib.Core.Bool.{not}
+use Rattle.registers.specs.Files.{fileOf, isFile}
+use Rattle.laws.proofs.Room.{starts-inside}
+use Rattle.visiting.proofs.Rooms.{has-lent, lent-on}
 use borrow.Author.Needs.{needs}
 use Rattle.visiting.proofs.visit.visit_accesses.Statement.{statement}
 use Rattle.visiting.proofs.visit.visit_accesses.Tie as tie
 
-from-bytes-requires : tie.Need-from-bytes-requires
-from-bytes-requires c κs = search needs
+lacks-room-requires : tie.Need-lacks-room-requires
+lacks-room-requires c κs = search needs
 
-returns : tie.Need-returns
-returns c =
-    let a = c .before .before .before .before .before .before .args in
-    bad-record (now (a .b)) (c .before .before .from-bytes .result) (c .before .before .from-bytes .ensures) (now (a .log)) (a .start) (not (isFile (now (a .file)))) (fileOf (now (a .file))) (c .if1 .taken)
+visit-tight-requires : tie.Need-visit-tight-requires
+visit-tight-requires c κs = search needs
 
-from-bytes-requires-2 : tie.Need-from-bytes-requires-2
-from-bytes-requires-2 c κs = search needs
+sub-visit-roomy : tie.Need-sub-visit-roomy
+sub-visit-roomy c = starts-inside 177 (c .before .before .before .before .before .args .start) (length (now (c .before .before .before .before .before .args .log))) (sym (c .before .lacks-room .ensures) ∙ c .if1 .left)
 
-returns-2 : tie.Need-returns-2
-returns-2 c =
-    let a = c .before .before .before .before .before .before .before .before .args in
-    bad-file (now (a .b)) (now (a .file)) (c .before .before .before .before .from-bytes .result) (c .before .before .before .before .from-bytes .ensures) (c .before .from-bytes2 .result) (c .before .from-bytes2 .ensures) (now (a .log)) (a .start) (c .before .before .if1 .left) (c .if2 .taken)
+part-visit-roomy-start : tie.Need-part-visit-roomy-start
+part-visit-roomy-start c = starts-inside 177 (c .before .before .before .before .before .args .start) (length (now (c .before .before .before .before .before .args .log))) (sym (c .before .lacks-room .ensures) ∙ c .if1 .left)
 
-fixed-up-requires : tie.Need-fixed-up-requires
-fixed-up-requires c κs = search needs
+part-visit-roomy-end : tie.Need-part-visit-roomy-end
+part-visit-roomy-end c = search needs
 
-visit-record-requires : tie.Need-visit-record-requires
-visit-record-requires c κs = search needs
+visit-roomy-requires : tie.Need-visit-roomy-requires
+visit-roomy-requires c κs = has-lent (c .before .before .before .before .before .before .args .start) (now (c .before .before .before .before .before .before .args .log)) (sym (c .before .before .lacks-room .ensures) ∙ c .before .if1 .left)
 
 same-length : tie.Need-same-length
 same-length c = search needs
 
-returns-3 : tie.Need-returns-3
-returns-3 c =
-    let a = c .before .before .before .before .before .before .before .before .before .before .before .before .before .before .before .args in
-    rw (c .before .before .before .before .before .before .fixed-up .ensures, visited-under (now (a .b)) (now (a .file)) (c .before .before .before .before .before .before .before .before .before .before .before .from-bytes .result) (c .before .before .before .before .before .before .before .before .before .before .before .from-bytes .ensures) (c .before .before .before .before .before .before .before .before .from-bytes2 .result) (c .before .before .before .before .before .before .before .before .from-bytes2 .ensures) (now (a .log)) (a .start) (c .before .before .before .before .before .before .before .before .before .if1 .left) (c .before .before .before .before .before .before .before .if2 .left)) at (c .before .before .visit-record .ensures)
+returns : tie.Need-returns
+returns c = search needs
+
+same-length-2 : tie.Need-same-length-2
+same-length-2 c = search needs
+
+returns-2 : tie.Need-returns-2
+returns-2 c = lent-on (not (isFile (now (c .before .before .before .before .before .before .before .before .before .args .file)))) (now (c .before .before .before .before .before .before .before .before .before .args .b)) (fileOf (now (c .before .before .before .before .before .before .before .before .before .args .file))) (now (c .before .before .before .before .before .before .before .before .before .args .log)) (c .before .before .before .before .before .before .before .before .before .args .start) (sym (c .before .before .before .before .before .lacks-room .ensures) ∙ c .before .before .before .before .if1 .left) (c .before .before .visit-roomy .ensures)
 
 pub visit-accesses-spec : {M : Type 1} → statement M
 visit-accesses-spec =
     tie.close
     (tie.spec
-    from-bytes-requires
-    returns
-    from-bytes-requires-2
-    returns-2
-    fixed-up-requires
-    visit-record-requires
+    lacks-room-requires
+    visit-tight-requires
+    sub-visit-roomy
+    part-visit-roomy-start
+    part-visit-roomy-end
+    visit-roomy-requires
     same-length
-    returns-3)
+    returns
+    same-length-2
+    returns-2)

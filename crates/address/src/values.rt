@@ -1,0 +1,44 @@
+// Sums of what is known: unknown where one of the terms is.
+use crate::words::times;
+use registers::Value;
+ghost use mathlib.Core.Path.{_≡_};
+ghost use Rattle.address.specs.Places.{plusOf, sumOf, lowOf, scaledOf};
+
+// A value and a number.
+pub fn plus(v: Value, offset: u64) -> Value
+    ensures { λ r. ⌜ r ≡ plusOf v offset ⌝ }
+{
+    match v {
+        Value::Known(a) => Value::Known(std::num::wrapping_add_u64(a, offset)),
+        Value::Unknown => Value::Unknown,
+    }
+}
+
+pub fn sum(u: Value, v: Value) -> Value
+    ensures { λ r. ⌜ r ≡ sumOf u v ⌝ }
+{
+    match u {
+        Value::Known(a) => plus(v, a),
+        Value::Unknown => Value::Unknown,
+    }
+}
+
+// The low 32 bits.
+pub fn low(v: Value) -> Value
+    ensures { λ r. ⌜ r ≡ lowOf v ⌝ }
+{
+    match v {
+        Value::Known(a) => Value::Known(a % 0x1_0000_0000),
+        Value::Unknown => Value::Unknown,
+    }
+}
+
+// Unknown stays unknown, also times 0.
+pub fn scaled(v: Value, scale: u8) -> Value
+    ensures { λ r. ⌜ r ≡ scaledOf v scale ⌝ }
+{
+    match v {
+        Value::Known(a) => Value::Known(times(a, scale)),
+        Value::Unknown => Value::Unknown,
+    }
+}

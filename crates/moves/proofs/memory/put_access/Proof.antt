@@ -1,0 +1,36 @@
+use borrow.Author.Needs.{needs}
+use mathlib.Core.Path.{sym, _∙_}
+use denote.Ref.{now}
+use Rattle.laws.proofs.Lending.{silent}
+use Rattle.definition.specs.Logs.{eventBytes}
+use Rattle.moves.specs.Touches.{accessEvents}
+use Rattle.moves.proofs.memory.put_access.Statement.{statement}
+use Rattle.moves.proofs.memory.put_access.Tie as tie
+
+is-stopped-requires : tie.Need-is-stopped-requires
+is-stopped-requires c κs = search needs
+
+returns : tie.Need-returns
+unfolding accessEvents
+returns c = rw (sym (c .before .is-stopped .ensures) ∙ c .if1 .taken) (silent eventBytes (now (c .before .before .before .args .log)))
+
+put-memory-requires : tie.Need-put-memory-requires
+unfolding accessEvents
+put-memory-requires c κs = rw (sym (c .before .before .is-stopped .ensures) ∙ c .before .if1 .left) at (c .before .before .before .before .pre)
+
+same-length : tie.Need-same-length
+same-length c = search needs
+
+returns-2 : tie.Need-returns-2
+unfolding accessEvents
+returns-2 c = rw (sym (c .before .before .before .before .before .is-stopped .ensures) ∙ c .before .before .before .before .if1 .left) (c .before .before .put-memory .ensures)
+
+pub put-access-spec : {M : Type 1} → statement M
+put-access-spec =
+    tie.close
+    (tie.spec
+    is-stopped-requires
+    returns
+    put-memory-requires
+    same-length
+    returns-2)

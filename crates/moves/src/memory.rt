@@ -1,0 +1,56 @@
+// Memory that an explicit operand touches: the registers of the address, the mask, then the access.
+use crate::registers_of::put_mask;
+use event::put_memory;
+use event::put_register;
+use implicit::Way;
+use record::Record;
+use registers::RegSpec;
+use registers::Value;
+ghost use mathlib.Core.Path.{_≡_};
+ghost use Prim.Native.Nat.{_≤_};
+ghost use lib.ListN.{length};
+ghost use Rattle.laws.specs.Lending.{size, Logged};
+ghost use Rattle.definition.specs.Logs.{eventBytes};
+ghost use Rattle.moves.specs.Touches.{stops, accessEvents, derefEvents, indexedEvents};
+
+const LEA: u16 = 28;
+
+// Under LEA a read part stops before the access; a write part does not.
+fn is_stopped(x: Record, way: Way) -> bool
+    ensures { λ r. ⌜ r ≡ stops x way ⌝ }
+{
+    match way {
+        Way::Read => x.opcode == LEA,
+        Way::Write => false,
+    }
+}
+
+// The access itself: the address of every explicit operand comes here last.
+pub fn put_access(log: &mut [u8], x: Record, way: Way, at: Value) -> usize
+    requires { ⌜ size eventBytes (accessEvents x way at) ≤ length (now log) ⌝ }
+    ensures { λ r. ⌜ Logged eventBytes (accessEvents x way at) (now (log .entry)) (now (log .exit)) r ⌝ }
+{
+    if is_stopped(x, way) {
+        return 0;
+    }
+    put_memory(log, way, at, x.size)
+}
+
+// The one register of an address.
+pub fn put_deref(log: &mut [u8], x: Record, way: Way, y: RegSpec, mask: u8, at: Value) -> usize
+    requires { ⌜ size eventBytes (derefEvents x way y mask at) ≤ length (now log) ⌝ }
+    ensures { λ r. ⌜ Logged eventBytes (derefEvents x way y mask at) (now (log .entry)) (now (log .exit)) r ⌝ }
+{
+    let m = put_register(log, Way::Read, y);
+    let n = m + put_mask(&mut log[m..], mask);
+    n + put_access(&mut log[n..], x, way, at)
+}
+
+// Base and index.
+pub fn put_indexed(log: &mut [u8], x: Record, way: Way, mask: u8, at: Value) -> usize
+    requires { ⌜ size eventBytes (indexedEvents x way mask at) ≤ length (now log) ⌝ }
+    ensures { λ r. ⌜ Logged eventBytes (indexedEvents x way mask at) (now (log .entry)) (now (log .exit)) r ⌝ }
+{
+    let n = put_register(log, Way::Read, x.regs[1]);
+    n + put_deref(&mut log[n..], x, way, x.regs[2], mask, at)
+}

@@ -1,0 +1,76 @@
+-- The parts of explicit operands as events, from what the record's addresses are made of: no register file enters.
+use Prim.Native.Nat.{ℕ, zero, suc, _+_, _*_, _/_, _%_, _^_}
+use mathlib.Core.List.{List, [], _∷_}
+use mathlib.Core.Bool.{cond}
+use lib.ListN.{getD}
+use lib.Dec.{ltb, eqb}
+use Rattle.laws.specs.Words.{bit}
+use Rattle.laws.specs.Lists.{flat}
+use Rattle.registers.specs.declared.Value.the-variants.{Known}
+use Rattle.implicit.specs.Lists.{rdi, rsi, edi, esi}
+use Rattle.implicit.specs.declared.Way.{Way}
+use Rattle.implicit.specs.declared.Way.the-variants.{Read, Write}
+use Rattle.record.specs.Records.{specAt, regAt}
+use Rattle.record.specs.declared.Record.{Record}
+use Rattle.definition.specs.Addresses.{signed32}
+use Rattle.definition.specs.Steps.{fourthOf}
+use Rattle.definition.specs.declared.Event.{Event}
+use Rattle.address.specs.Places.{plusOf, sumOf, lowOf}
+use Rattle.address.specs.declared.places.Sources.{Sources}
+use Rattle.moves.specs.Touches.{plainEvents, maskedEvents, accessEvents, derefEvents, indexedEvents}
+
+-- by spec, 0 to 35
+abbrev pub parts : Record → Way → Sources → List (List Event)
+parts x w at =
+    []
+    -- RegRRR, RegMMM, RegVex, Reg4
+    ∷ plainEvents w (regAt x 0) ∷ plainEvents w (regAt x 1) ∷ plainEvents w (regAt x 3) ∷ plainEvents w (fourthOf x)
+    -- the same under a mask
+    ∷ maskedEvents w (regAt x 0) (x .mask) ∷ maskedEvents w (regAt x 0) (x .mask) ∷ maskedEvents w (regAt x 0) (x .mask)
+    ∷ maskedEvents w (regAt x 1) (x .mask) ∷ maskedEvents w (regAt x 1) (x .mask)
+    ∷ maskedEvents w (regAt x 3) (x .mask)
+    -- immediates
+    ∷ [] ∷ [] ∷ [] ∷ [] ∷ [] ∷ [] ∷ []
+    -- Deref, Deref_mask
+    ∷ derefEvents x w (regAt x 1) 0 (at .base) ∷ derefEvents x w (regAt x 1) (x .mask) (at .base)
+    -- Deref_rdi, Deref_rsi, Deref_edi, Deref_esi
+    ∷ derefEvents x w rdi 0 (at .rdi) ∷ derefEvents x w rsi 0 (at .rsi)
+    ∷ derefEvents x w edi 0 (lowOf (at .rdi)) ∷ derefEvents x w esi 0 (lowOf (at .rsi))
+    -- Disp
+    ∷ derefEvents x w (regAt x 1) 0 (plusOf (at .base) (signed32 (x .disp)))
+    ∷ derefEvents x w (regAt x 1) (x .mask) (plusOf (at .base) (signed32 (x .disp)))
+    -- MemIndexScale
+    ∷ derefEvents x w (regAt x 2) 0 (at .index) ∷ derefEvents x w (regAt x 2) (x .mask) (at .index)
+    -- MemIndexScaleDisp
+    ∷ derefEvents x w (regAt x 2) 0 (plusOf (at .index) (signed32 (x .disp)))
+    ∷ derefEvents x w (regAt x 2) (x .mask) (plusOf (at .index) (signed32 (x .disp)))
+    -- MemBaseIndexScale
+    ∷ indexedEvents x w 0 (sumOf (at .base) (at .index)) ∷ indexedEvents x w (x .mask) (sumOf (at .base) (at .index))
+    -- MemBaseIndexScaleDisp
+    ∷ indexedEvents x w 0 (plusOf (sumOf (at .base) (at .index)) (signed32 (x .disp)))
+    ∷ indexedEvents x w (x .mask) (plusOf (sumOf (at .base) (at .index)) (signed32 (x .disp)))
+    -- DispU64, DispU32
+    ∷ accessEvents x w (plusOf (Known 0) (x .disp)) ∷ accessEvents x w (plusOf (Known 0) (x .disp % 2 ^ 32))
+    ∷ []
+
+unfoldable pub partEvents : Record → Way → Sources → ℕ → List Event
+partEvents x w at s = getD (parts x w at) s []
+
+-- Part p of the operands: the read part of operand p / 2, or its write part
+unfoldable pub wayOf : ℕ → Way
+wayOf p = cond (eqb (p % 2) 0) Read Write
+
+unfoldable pub partAt : Record → Sources → ℕ → List Event
+partAt x at p = cond (bit (x .digest .operands) p) (partEvents x (wayOf p) at (specAt x (p / 2))) []
+
+-- k parts from p on
+unfoldable pub partsFrom : Record → Sources → ℕ → ℕ → List (List Event)
+partsFrom x at p zero = []
+partsFrom x at p (suc k) = partAt x at p ∷ partsFrom x at (p + 1) k
+
+-- two parts for each operand below count, of which there are at most four
+unfoldable pub partCount : Record → ℕ
+partCount x = cond (ltb 4 (x .count)) 8 (2 * x .count)
+
+unfoldable pub explicitEvents : Record → Sources → List Event
+explicitEvents x at = flat (partsFrom x at 0 (partCount x))

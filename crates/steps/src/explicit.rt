@@ -1,0 +1,144 @@
+// The explicit operands: for each its read part, then its write part.
+use address::Sources;
+use address::low;
+use address::plus;
+use address::sign_extended;
+use address::sum;
+use implicit::Way;
+use moves::fourth_of;
+use moves::names::EDI;
+use moves::names::ESI;
+use moves::names::RDI;
+use moves::names::RSI;
+use moves::put_access;
+use moves::put_deref;
+use moves::put_indexed;
+use moves::put_masked;
+use moves::put_plain;
+use record::Record;
+use registers::Value;
+ghost use mathlib.Core.Path.{_≡_};
+ghost use Prim.Native.Nat.{_≤_, _<_};
+ghost use Rattle.laws.specs.Words.{bit};
+ghost use lib.ListN.{length};
+ghost use Rattle.laws.specs.Lending.{size, Logged};
+ghost use Rattle.definition.specs.Logs.{eventBytes};
+ghost use Rattle.steps.specs.Parts.{partEvents, wayOf, partAt, partCount, explicitEvents};
+
+// One part of an operand, by its spec: Nothing and immediates log nothing.
+fn put_part(log: &mut [u8], x: Record, spec: u8, way: Way, at: Sources) -> usize
+    requires { ⌜ size eventBytes (partEvents x way at spec) ≤ length (now log) ⌝ }
+    ensures { λ r. ⌜ Logged eventBytes (partEvents x way at spec) (now (log .entry)) (now (log .exit)) r ⌝ }
+{
+    let base = x.regs[1];
+    let index = x.regs[2];
+    let at_base = at.base;
+    let at_index = at.index;
+    let at_rdi = at.rdi;
+    let at_rsi = at.rsi;
+    match spec {
+        1 => put_plain(log, way, x.regs[0]),
+        2 => put_plain(log, way, base),
+        3 => put_plain(log, way, x.regs[3]),
+        4 => put_plain(log, way, fourth_of(x)),
+        5 => put_masked(log, way, x.regs[0], x.mask),
+        6 => put_masked(log, way, x.regs[0], x.mask),
+        7 => put_masked(log, way, x.regs[0], x.mask),
+        8 => put_masked(log, way, base, x.mask),
+        9 => put_masked(log, way, base, x.mask),
+        10 => put_masked(log, way, x.regs[3], x.mask),
+        18 => put_deref(log, x, way, base, 0, at_base),
+        19 => put_deref(log, x, way, base, x.mask, at_base),
+        20 => put_deref(log, x, way, RDI, 0, at_rdi),
+        21 => put_deref(log, x, way, RSI, 0, at_rsi),
+        22 => put_deref(log, x, way, EDI, 0, low(at_rdi)),
+        23 => put_deref(log, x, way, ESI, 0, low(at_rsi)),
+        24 => put_deref(log, x, way, base, 0, plus(at_base, sign_extended(x.disp))),
+        25 => put_deref(
+            log,
+            x,
+            way,
+            base,
+            x.mask,
+            plus(at_base, sign_extended(x.disp)),
+        ),
+        26 => put_deref(log, x, way, index, 0, at_index),
+        27 => put_deref(log, x, way, index, x.mask, at_index),
+        28 => put_deref(log, x, way, index, 0, plus(at_index, sign_extended(x.disp))),
+        29 => put_deref(
+            log,
+            x,
+            way,
+            index,
+            x.mask,
+            plus(at_index, sign_extended(x.disp)),
+        ),
+        30 => put_indexed(log, x, way, 0, sum(at_base, at_index)),
+        31 => put_indexed(log, x, way, x.mask, sum(at_base, at_index)),
+        32 => put_indexed(
+            log,
+            x,
+            way,
+            0,
+            plus(sum(at_base, at_index), sign_extended(x.disp)),
+        ),
+        33 => put_indexed(
+            log,
+            x,
+            way,
+            x.mask,
+            plus(sum(at_base, at_index), sign_extended(x.disp)),
+        ),
+        34 => put_access(log, x, way, plus(Value::Known(0), x.disp)),
+        35 => put_access(log, x, way, plus(Value::Known(0), x.disp % 0x1_0000_0000)),
+        _ => 0,
+    }
+}
+
+// Even parts read, odd parts write.
+fn way_of(part: u8) -> Way
+    ensures { λ r. ⌜ r ≡ wayOf part ⌝ }
+{
+    if part % 2 == 0 { Way::Read } else { Way::Write }
+}
+
+fn has_part(accesses: u8, part: u8) -> bool
+    requires { ⌜ part < 8 ⌝ }
+    ensures { λ r. ⌜ r ≡ bit accesses part ⌝ }
+{
+    (accesses >> part) % 2 == 1
+}
+
+// Part 2 i is the read part of operand i, and part 2 i + 1 its write part: each bit of the accesses is a part.
+fn put_part_at(log: &mut [u8], x: Record, part: u8, at: Sources) -> usize
+    requires { ⌜ (part < 8) × (size eventBytes (partAt x at part) ≤ length (now log)) ⌝ }
+    ensures { λ r. ⌜ Logged eventBytes (partAt x at part) (now (log .entry)) (now (log .exit)) r ⌝ }
+{
+    if has_part(x.digest.operands, part) {
+        put_part(log, x, x.spec(part / 2), way_of(part), at)
+    } else {
+        0
+    }
+}
+
+// Two for each operand below count, of which there are at most four.
+fn part_count(x: Record) -> u8
+    ensures { λ r. ⌜ (r ≡ partCount x) × (r ≤ 8) ⌝ }
+{
+    if 4 < x.count { 8 } else { 2 * x.count }
+}
+
+pub fn put_operands(log: &mut [u8], x: Record, at: Sources) -> usize
+    requires { ⌜ size eventBytes (explicitEvents x at) ≤ length (now log) ⌝ }
+    ensures { λ r. ⌜ Logged eventBytes (explicitEvents x at) (now (log .entry)) (now (log .exit)) r ⌝ }
+{
+    let count = part_count(x);
+    let mut n = 0;
+    let mut part: u8 = 0;
+    while part < count {
+        let k = put_part_at(&mut log[n..], x, part, at);
+        n = n + k;
+        part = part + 1;
+    }
+    n
+}
