@@ -4,18 +4,18 @@ use native.Mathlib.Omega.{arith}
 use borrow.Author.Tests.{le-ltb, ltb-true, ltb-false, eq-eqb, ne-eqb}
 use mathlib.Core.Path.{_≡_, refl, sym, ap, _∙_}
 use mathlib.Core.List.{List, []}
-use mathlib.Core.Bool.{Bool, true, false, cond, _||_}
-use lib.ListN.{length, take, drop}
+use mathlib.Core.Bool.{Bool, true, false, _||_}
+use lib.ListN.{length, take}
 use lib.Seq.{length-take-le}
-use lib.Dec.{ltb, eqb}
+use lib.Dec.{ltb}
 use Rattle.laws.specs.Lending.{lacksRoom}
 use Rattle.laws.proofs.Room.{starts-inside, has-left}
 use Rattle.definition.specs.Limits.{mostBytes}
-use Rattle.streams.specs.Cuts.{Fed, waits, fedFrom, closingOf}
-use Rattle.streams.specs.Streams.{lengthOf, Said, meaning, StreamReader, Outcome, unfinished, outcomeOf, feed}
+use Rattle.streams.specs.Cuts.{waits, fedFrom, closingOf}
+use Rattle.streams.specs.Streams.{lengthOf, meaning, StreamReader, Outcome, unfinished, outcomeOf, feed}
 use Rattle.streams.proofs.Proved.{stopped-stays, early-seven}
-use Rattle.reader.specs.Held.{itemRoom, readerWith, Handed, handing, handedTo}
-use Rattle.reader.specs.Items.{onward, closed, doing, onlyOpen, goesOn, Through, Ready}
+use Rattle.reader.specs.Held.{readerWith, handing, handedTo}
+use Rattle.reader.specs.Items.{onward, closed, doing, goesOn, Through, Ready}
 use Rattle.reader.specs.Chunks.{Kept}
 use Rattle.reader.specs.declared.chunks.Reader.{Reader}
 use Rattle.reader.specs.declared.items.Brought.{Brought}

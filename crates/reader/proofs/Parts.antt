@@ -1,15 +1,13 @@
 -- Many bytes of an item at once are those bytes one by one. Over any lengths and any meaning. Assumes nothing.
 use Prim.Native.Nat.{ℕ, zero, suc, _+_, _≤_, _<_}
-use native.Mathlib.Nat.{zero-add, add-zero, suc-add, add-assoc}
+use native.Mathlib.Nat.{zero-add, suc-add, add-assoc}
 use native.Mathlib.Omega.{arith}
 use borrow.Author.Tests.{lt-ltb, le-ltb, eq-eqb, ne-eqb}
 use mathlib.Core.Path.{_≡_, refl, sym, ap, _∙_}
-use mathlib.Core.List.{List, [], _∷_, _++_, append-nil}
-use mathlib.Core.Bool.{Bool, true, false, cond}
+use mathlib.Core.List.{List, [], _∷_, _++_}
 use lib.ListN.{length, getD, take, drop, length-append, length-take, take-append-drop}
 use lib.Seq.{append-snoc}
-use lib.Dec.{ltb, eqb}
-use Rattle.streams.specs.Cuts.{Saying, quiet, told, Fed, waits, says, stops, further, Move, halts, keeps, ends, moveBy, onSaying, onMove, fedFrom}
+use Rattle.streams.specs.Cuts.{Saying, quiet, told, Fed, waits, says, stops, further, moveBy, onSaying, fedFrom}
 use Rattle.reader.specs.Items.{ahead}
 
 module _ {F A : Type 0} where

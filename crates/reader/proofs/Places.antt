@@ -1,16 +1,15 @@
 -- The places of an item and of a file: bytes that are laid over them. Assumes nothing.
-use Prim.Native.Nat.{ℕ, zero, suc, _+_, _≤_, _<_}
+use Prim.Native.Nat.{ℕ, zero, suc, _+_, _<_}
 use native.Mathlib.Numerals.{add-one}
 use native.Mathlib.Omega.{arith}
-use mathlib.Core.Path.{_≡_, refl, sym, ap, _∙_}
+use mathlib.Core.Path.{_≡_, refl}
 use mathlib.Core.List.{List, [], _∷_, _++_}
 use mathlib.Core.Bool.{Bool, true, false, cond}
-use lib.ListN.{length, getD, take, drop, set}
+use lib.ListN.{length, getD, take, set}
 use lib.Dec.{eqb}
 use lib.Seq.{take-all, paste, paste-suc}
 use Rattle.laws.specs.Lending.{splice}
 use Rattle.registers.specs.Files.{fileOf, isFile, fileAnswer, refusedFile}
-use Rattle.registers.specs.declared.FileAnswer.{FileAnswer}
 
 -- one byte more
 pub pasted : (d : List ℕ) (at : ℕ) (s : List ℕ) (j : ℕ) → at + j < length d → j < length s → set (paste d at s j) (at + j) (getD s j 0) ≡ paste d at s (j + 1)

@@ -1,6 +1,6 @@
 -- What a call answers, from what visiting answered. Assumes nothing.
 use Prim.Native.Nat.{ℕ, _+_, _-_, _^_, _≤_, _<_}
-use mathlib.Core.Path.{_≡_, refl, sym, ap, _∙_, subst}
+use mathlib.Core.Path.{_≡_, sym, ap, _∙_, subst}
 use mathlib.Core.List.{List, []}
 use mathlib.Core.Bool.{true, not}
 use lib.ListN.{length, take}
@@ -10,16 +10,15 @@ use Rattle.definition.specs.Limits.{mostBytes}
 use Rattle.definition.specs.Visits.{visitOf, numberOf, opcodeOf, countOf}
 use Rattle.definition.specs.declared.Answer.{Answer}
 use Rattle.answers.proofs.Counts.{visit-fits}
-use Rattle.streams.specs.Cuts.{reader, Fed, waits, says, stops}
-use Rattle.streams.specs.Streams.{Said, saidAt, recordSays, StreamReader, Outcome, finishing, unfinished, outcomeOf}
+use Rattle.streams.specs.Cuts.{reader, Fed, waits, says}
+use Rattle.streams.specs.Streams.{Said, saidAt, recordSays, Outcome, finishing, outcomeOf}
 use Rattle.streams.proofs.Driving.{Leaves, visit-leaves, splice-nothing}
 use Rattle.streams.proofs.Proved.{records-are-visited}
-use Rattle.reader.specs.Held.{Handed, handing, readerWith, leftBy}
+use Rattle.reader.specs.Held.{handing, leftBy}
 use Rattle.reader.specs.Items.{closed, doing}
-use Rattle.reader.specs.Chunks.{replying, goingOn, recordOutcome}
+use Rattle.reader.specs.Chunks.{replying, goingOn}
 use Rattle.reader.specs.declared.chunks.Reply.{Reply}
 use Rattle.reader.specs.declared.items.Brought.{Brought}
-use Rattle.reader.specs.declared.items.Brought.the-variants.{Nothing, Unknown, BadFile, Record}
 use Rattle.reader.specs.declared.items.Taking.{Taking}
 
 module _ (f b p : List ℕ) (s : ℕ) {a : Answer} {q : List ℕ} (e : (a, q) ≡ visitOf b f p s) where

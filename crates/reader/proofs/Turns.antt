@@ -4,7 +4,7 @@ use native.Mathlib.Nat.{add-zero}
 use native.Mathlib.Omega.{arith}
 use borrow.Author.Tests.{ltb-true, ltb-false}
 use mathlib.Core.Path.{_≡_, refl, sym, ap, _∙_}
-use mathlib.Core.Logic.{⊎-elim, _⊎_, inl, inr}
+use mathlib.Core.Logic.{⊎-elim, _⊎_}
 use mathlib.Core.List.{List, [], _∷_, _++_}
 use mathlib.Core.Bool.{Bool, true, false, cond}
 use lib.ListN.{length, getD, take, drop, length-append, length-drop, drop-of-length-le}
@@ -12,8 +12,8 @@ use lib.Seq.{take-at, getD-drop, drop-drop, drop-cons, length-take-le, getD-take
 use lib.Dec.{ltb}
 use Rattle.laws.specs.Lending.{splice}
 use Rattle.registers.specs.Files.{isFile}
-use Rattle.streams.specs.Cuts.{Saying, quiet, told, Fed, waits, stops, fedFrom}
-use Rattle.streams.specs.Streams.{lengthOf, ofFile, Said, badFile, recordSays, meaning}
+use Rattle.streams.specs.Cuts.{Saying, quiet, told, waits, stops, fedFrom}
+use Rattle.streams.specs.Streams.{lengthOf, ofFile, Said, meaning}
 use Rattle.reader.specs.Held.{itemRoom}
 use Rattle.reader.specs.Items.{ahead, doing, onward, closed, afterItem, onlyOpen, goesOn, PartIn, Sized, Ready, Less}
 use Rattle.reader.specs.declared.items.Brought.{Brought}

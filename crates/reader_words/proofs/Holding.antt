@@ -1,11 +1,9 @@
 -- Which reader words are. Assumes nothing.
-use Prim.Native.Nat.{ℕ, _*_, _≤_}
-use native.Mathlib.Omega.{arith}
+use Prim.Native.Nat.{ℕ}
 use mathlib.Core.Path.{_≡_, refl, sym, ap, ap₂, _∙_}
-use mathlib.Core.List.{List, []}
-use mathlib.Core.Bool.{Bool, true, false, cond}
+use mathlib.Core.List.{List}
+use mathlib.Core.Bool.{Bool, true, false}
 use lib.ListN.{length, replicate}
-use Rattle.streams.specs.Cuts.{halted}
 use Rattle.laws.specs.Words.{numberAt}
 use Rattle.registers.specs.Files.{numbersFrom}
 use Rattle.streams.specs.Streams.{fresh}

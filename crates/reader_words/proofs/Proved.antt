@@ -3,23 +3,23 @@ use Prim.Native.Nat.{ℕ, zero, suc, _+_, _-_, _*_, _/_, _%_, _≤_, _<_}
 use native.Mathlib.Nat.{add-zero, zero-add}
 use native.Mathlib.Omega.{arith}
 use borrow.Author.Tests.{eq-eqb, lt-ltb, eqb-true, eqb-false}
-use mathlib.Core.Path.{_≡_, refl, sym, ap, ap₂, _∙_, subst}
+use mathlib.Core.Path.{_≡_, refl, sym, ap, ap₂, _∙_}
 use mathlib.Core.Logic.{⊎-elim, _⊎_, inl, inr}
 use mathlib.Core.List.{List, [], _∷_, _++_}
-use mathlib.Core.Bool.{Bool, true, false, cond, not, _&&_, _||_}
+use mathlib.Core.Bool.{Bool, true, false, cond, not, _||_}
 use lib.ListN.{length, getD, take, replicate, length-append, List·getD-append}
-use lib.Seq.{getD-append-add, ext-getD, length-take-le}
-use lib.Dec.{eqb, ltb}
+use lib.Seq.{getD-append-add, ext-getD}
+use lib.Dec.{eqb}
 use Rattle.laws.specs.Words.{numberAt, little}
 use Rattle.laws.proofs.Choice.{and-left, and-right}
 use Rattle.registers.specs.Files.{numbersFrom, isFile}
 use Rattle.event.specs.Held.{Bytes}
-use Rattle.streams.specs.Cuts.{Reader, halted}
+use Rattle.streams.specs.Cuts.{halted}
 use Rattle.streams.specs.Streams.{lengthOf, StreamReader}
 use Rattle.streams.specs.Promises.{Sound}
-use Rattle.reader.specs.Held.{itemRoom, isPart, isLatest, holdsPart, holdsFile, readerWith, readerIn}
+use Rattle.reader.specs.Held.{itemRoom, isPart, isLatest, holdsPart, holdsFile, readerIn}
 use Rattle.reader.proofs.Sound.{kind-short, file-short}
-use Rattle.reader_words.specs.Words.{readerWords, placeWords, bytesFrom, bytesIn, wordsIn, wordsOf, numbersIn, toldBy, sameWords, readerBy}
+use Rattle.reader_words.specs.Words.{readerWords, placeWords, bytesFrom, bytesIn, wordsIn, wordsOf, toldBy, sameWords, readerBy}
 use Rattle.reader_words.specs.Promises as promised
 use Rattle.reader_words.proofs.Packing.{words-long}
 use Rattle.reader_words.proofs.Holding.{place-long}

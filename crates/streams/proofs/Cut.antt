@@ -13,7 +13,7 @@ use lib.Dec.{ltb, eqb}
 use Rattle.laws.specs.Lists.{flat}
 use Rattle.laws.proofs.Choice.{either}
 use Rattle.laws.proofs.Every.{Every, every-append}
-use Rattle.streams.specs.Cuts.{Saying, quiet, told, saidBy, Front, ended, unknown, inside, whole, Told, tells, before, frontBy, onFront, toldFrom, toldOf, Reader, reader, halted, Move, halts, keeps, ends, moveBy, Fed, waits, says, stops, further, onSaying, onMove, fedFrom, onFed, handed, handedOf, handedAll, closingOf}
+use Rattle.streams.specs.Cuts.{Saying, quiet, told, saidBy, Front, ended, unknown, inside, whole, Told, tells, before, frontBy, onFront, toldFrom, toldOf, Reader, reader, Move, halts, keeps, ends, moveBy, Fed, waits, says, stops, further, onSaying, onMove, fedFrom, onFed, handed, handedOf, handedAll, closingOf}
 
 pub before-before : {A : Type 0} (xs ys : List A) (t : Told A) → before xs (before ys t) ≡ before (xs ++ ys) t
 before-before xs ys t = ap (λ l. tells l (t .closing)) (sym (append-assoc xs ys (t .answers)))

@@ -1,16 +1,14 @@
 -- Over files and records: the driver over the calls is the driver over the bytes; a record's answer is visiting's. Assumes nothing.
-use Prim.Native.Nat.{ℕ, zero, suc, _+_, _≤_, _<_}
+use Prim.Native.Nat.{ℕ, zero, suc, _+_, _≤_}
 use native.Mathlib.Nat.{add-zero}
-use native.Mathlib.Omega.{arith}
 use borrow.Author.Tests.{le-ltb, eqb-true}
 use mathlib.Core.Path.{_≡_, refl, sym, ap, _∙_}
 use mathlib.Core.List.{List, [], _∷_, _++_, append-nil}
-use mathlib.Core.Bool.{Bool, true, false, not, cond}
+use mathlib.Core.Bool.{Bool, true, false, cond}
 use lib.ListN.{length, take, drop, take-append-drop}
-use lib.Dec.{ltb, eqb}
+use lib.Dec.{eqb}
 use Rattle.laws.specs.Lending.{splice}
 use Rattle.laws.specs.Lists.{flat}
-use Rattle.registers.specs.Files.{fileOf, isFile}
 use Rattle.registers.specs.declared.RegisterFile.{RegisterFile}
 use Rattle.record.specs.Records.{recordOf}
 use Rattle.definition.specs.Limits.{mostBytes}
@@ -21,8 +19,8 @@ use Rattle.definition.specs.declared.Answer.{Answer}
 use Rattle.definition.specs.declared.Answer.the-variants.{Done, Refused, Complex, Short}
 use Rattle.promises.proofs.Rooms.{room-enough, visit-has-room}
 use Rattle.promises.proofs.Outcomes.{spliced}
-use Rattle.streams.specs.Cuts.{Told, tells, Reader, reader, halted, Fed, waits, says, stops, toldOf, fedFrom, onFed, handed, handedOf, handedAll, closingOf}
-use Rattle.streams.specs.Streams.{lengthOf, Said, unknownKind, saidAt, recordSays, meaning, answersOf, endingOf, StreamReader, fresh, Outcome, outcomeOf, feed, onCall, driven, drivenAll}
+use Rattle.streams.specs.Cuts.{tells, reader, Fed, waits, says, stops, toldOf, fedFrom, onFed, handed, handedOf, handedAll, closingOf}
+use Rattle.streams.specs.Streams.{lengthOf, Said, unknownKind, saidAt, meaning, StreamReader, fresh, Outcome, outcomeOf, feed, onCall, driven, drivenAll}
 use Rattle.streams.proofs.Cut.{cut}
 
 -- a call with room, of a reader that goes on

@@ -1,12 +1,11 @@
 -- Every statement of specs/Promises.antt, proved.
-use Prim.Native.Nat.{ℕ, _+_, _≤_, _<_}
+use Prim.Native.Nat.{ℕ}
 use native.Mathlib.Omega.{arith}
 use borrow.Author.Tests.{lt-ltb, le-ltb}
-use mathlib.Core.Path.{_≡_, refl, sym, ap, _∙_}
+use mathlib.Core.Path.{refl, sym, ap, _∙_}
 use mathlib.Core.Logic.{inl}
-use mathlib.Core.List.{List, []}
 use mathlib.Core.Bool.{not}
-use lib.ListN.{length, replicate, length-replicate}
+use lib.ListN.{replicate, length-replicate}
 use Rattle.registers.specs.Files.{fileOf, isFile}
 use Rattle.definition.specs.Limits.{mostBytes}
 use Rattle.promises.proofs.Opened.{opened}

@@ -1,12 +1,12 @@
 -- What a call takes, which numbers it answers, and demand 3 over streams. Assumes nothing.
-use Prim.Native.Nat.{ℕ, zero, suc, _+_, _≤_, _<_}
+use Prim.Native.Nat.{ℕ, suc, _+_, _≤_, _<_}
 use native.Mathlib.Omega.{arith}
-use borrow.Author.Tests.{lt-ltb, le-ltb, eqb-true, eqb-false, eq-eqb, ne-eqb}
-use mathlib.Core.Path.{_≡_, refl, sym, ap, _∙_, subst}
+use borrow.Author.Tests.{eqb-true, eq-eqb}
+use mathlib.Core.Path.{_≡_, refl, sym, ap, _∙_}
 use mathlib.Core.Logic.{⊎-elim, _⊎_, inl, inr}
 use mathlib.Core.List.{List, [], _∷_, _++_, append-assoc}
-use mathlib.Core.Bool.{Bool, true, false, not, cond, _&&_}
-use lib.ListN.{length, getD, take, drop, replicate, length-replicate}
+use mathlib.Core.Bool.{Bool, true, false, not, _&&_}
+use lib.ListN.{length, getD, replicate, length-replicate}
 use lib.Dec.{ltb, eqb}
 use Rattle.laws.specs.Tests.{firstOf}
 use Rattle.laws.specs.Lists.{flat}
@@ -18,19 +18,18 @@ use Rattle.registers.specs.declared.RegisterFile.{RegisterFile}
 use Rattle.record.specs.Records.{isRecord, recordOf, outside}
 use Rattle.definition.specs.Behaviors.{complex}
 use Rattle.definition.specs.Limits.{mostBytes}
-use Rattle.definition.specs.Refusals.{nameless, sizeless, noRoom}
+use Rattle.definition.specs.Refusals.{nameless, sizeless}
 use Rattle.definition.specs.Logs.{bytesOf}
-use Rattle.definition.specs.Visits.{fixedRecord, logOf, refusalOf, outcome, visitBy, visitOf, numberOf}
+use Rattle.definition.specs.Visits.{fixedRecord, logOf, refusalOf, visitBy}
 use Rattle.definition.specs.declared.Answer.{Answer}
-use Rattle.definition.specs.declared.Answer.the-variants.{Done, Refused, Complex}
-use Rattle.definition.specs.declared.Event.{Event}
+use Rattle.definition.specs.declared.Answer.the-variants.{Done}
 use Rattle.event.specs.Held.{Bytes}
-use Rattle.promises.specs.Refinement.{Extends, RefinesAll}
+use Rattle.promises.specs.Refinement.{Extends}
 use Rattle.promises.specs.Calls.{Alike, refused, logged}
 use Rattle.promises.proofs.Demands.{by-refines}
 use Rattle.promises.proofs.Rooms.{room-enough}
 use Rattle.promises.proofs.Outcomes.{number-is, spliced}
-use Rattle.streams.specs.Cuts.{Saying, quiet, told, saidBy, Told, before, Reader, reader, halted, Fed, waits, says, stops, toldOf, fedFrom, frontBy, onFront, Front, ended, unknown, inside, whole}
+use Rattle.streams.specs.Cuts.{Saying, told, saidBy, Told, before, Fed, waits, says, stops, toldOf, fedFrom, frontBy, onFront, Front, ended, unknown, inside, whole}
 use Rattle.streams.specs.Streams.{recordKind, recordLong, fileKind, fileLong, lengthOf, ofFile, Said, unknownKind, badFile, saidAt, recordSays, meaning, answersOf, Outcome, outcomeOf, feed}
 use Rattle.streams.specs.Promises.{Sound, Taking, UnknownNext, Beside, nothing, records, files, bad, BadFile, logging, SaidRefines, same, AllRefine, none, one}
 use Rattle.streams.specs.Promises as promised

@@ -3,9 +3,9 @@
 use Prim.Native.Nat.{ℕ, _-_}
 use mathlib.Core.List.{List, [], _∷_, _++_}
 use mathlib.Core.Bool.{cond}
-use lib.ListN.{length, take, drop, set}
+use lib.ListN.{take, drop, set}
 use Rattle.definition.specs.Limits.{mostBytes}
-use Rattle.promises.specs.Rows.{recordWith, fileKnowing, opcode, count, specs, behavior}
+use Rattle.promises.specs.Rows.{recordWith, fileKnowing, opcode, count, behavior}
 use Rattle.promises.specs.Bench.{P2, P2-file}
 use Rattle.streams.specs.Streams.{StreamReader, Outcome, feed, close}
 

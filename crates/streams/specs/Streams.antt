@@ -8,7 +8,7 @@ use Rattle.registers.specs.Files.{isFile}
 use Rattle.definition.specs.Limits.{mostBytes}
 use Rattle.definition.specs.Visits.{visitOf, numberOf, opcodeOf, countOf}
 use Rattle.definition.specs.declared.Answer.{Answer}
-use Rattle.streams.specs.Cuts.{Saying, quiet, told, Told, toldOf, Reader, reader, halted, Fed, waits, says, stops, fedFrom, closingOf}
+use Rattle.streams.specs.Cuts.{Saying, quiet, told, toldOf, Reader, reader, halted, Fed, waits, says, stops, fedFrom, closingOf}
 use Rattle.streams.specs.declared.Call.{Call}
 
 -- THE KINDS, and how long an item of each is

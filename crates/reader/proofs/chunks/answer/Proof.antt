@@ -10,11 +10,6 @@ use native.Mathlib.Omega.{arith}
 use borrow.Author.Needs.{needs}
 use Rattle.reader.proofs.chunks.answer.Statement.{statement}
 use Rattle.reader.proofs.chunks.answer.Tie as tie
-use Rattle.reader.proofs.chunks.answer.Reads as reads
-use Rattle.reader.proofs.chunks.answer.Lts as lts
-use Rattle.reader.proofs.chunks.finished.Reads as finished-reads
-use Rattle.reader.proofs.chunks.unfinished.Reads as unfinished-reads
-use Rattle.reader.proofs.chunks.visit_item.Reads as visit-item-reads
 
 enum-told : tie.Need-enum-told
 enum-told c = search needs

@@ -3,9 +3,6 @@ use mathlib.Core.Path.{sym, _∙_}
 use borrow.Author.Needs.{needs}
 use Rattle.reader.proofs.chunks.checked.Statement.{statement}
 use Rattle.reader.proofs.chunks.checked.Tie as tie
-use Rattle.reader.proofs.chunks.checked.Reads as reads
-use Rattle.reader.proofs.chunks.checked.Lts as lts
-use Rattle.reader.proofs.chunks.is_sound.Reads as is-sound-reads
 
 is-sound-requires : tie.Need-is-sound-requires
 is-sound-requires c κs = search needs

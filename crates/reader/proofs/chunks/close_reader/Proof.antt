@@ -6,9 +6,6 @@ use mathlib.Core.Path.{ap, _∙_}
 use borrow.Author.Needs.{needs}
 use Rattle.reader.proofs.chunks.close_reader.Statement.{statement}
 use Rattle.reader.proofs.chunks.close_reader.Tie as tie
-use Rattle.reader.proofs.chunks.close_reader.Reads as reads
-use Rattle.reader.proofs.chunks.close_reader.Lts as lts
-use Rattle.reader.proofs.chunks.checked.Reads as checked-reads
 
 checked-requires : tie.Need-checked-requires
 checked-requires c κs = search needs

@@ -5,9 +5,6 @@ use mathlib.Core.Path.{sym, _∙_}
 use borrow.Author.Needs.{needs}
 use Rattle.reader.proofs.chunks.is_latest.Statement.{statement}
 use Rattle.reader.proofs.chunks.is_latest.Tie as tie
-use Rattle.reader.proofs.chunks.is_latest.Reads as reads
-use Rattle.reader.proofs.chunks.is_latest.Lts as lts
-use Rattle.reader.proofs.kinds.is_file.Reads as is-file-reads
 
 returns : tie.Need-returns
 returns c = sym (no-file-place _ _ (c .if1 .taken))

@@ -3,9 +3,6 @@ use mathlib.Core.Path.{sym}
 use borrow.Author.Needs.{needs}
 use Rattle.reader.proofs.chunks.is_part.Statement.{statement}
 use Rattle.reader.proofs.chunks.is_part.Tie as tie
-use Rattle.reader.proofs.chunks.is_part.Reads as reads
-use Rattle.reader.proofs.chunks.is_part.Lts as lts
-use Rattle.reader.proofs.kinds.length_of.Reads as length-of-reads
 
 returns : tie.Need-returns
 returns c = sym (no-place _ _ (c .if1 .taken))

@@ -3,10 +3,6 @@ use mathlib.Core.Path.{sym, _∙_}
 use borrow.Author.Needs.{needs}
 use Rattle.reader.proofs.chunks.is_sound.Statement.{statement}
 use Rattle.reader.proofs.chunks.is_sound.Tie as tie
-use Rattle.reader.proofs.chunks.is_sound.Reads as reads
-use Rattle.reader.proofs.chunks.is_sound.Lts as lts
-use Rattle.reader.proofs.chunks.is_latest.Reads as is-latest-reads
-use Rattle.reader.proofs.chunks.is_part.Reads as is-part-reads
 
 is-part-requires : tie.Need-is-part-requires
 is-part-requires c κs = search needs

@@ -7,13 +7,6 @@ use native.Mathlib.Omega.{arith}
 use borrow.Author.Needs.{needs}
 use Rattle.reader.proofs.chunks.read_chunk.Statement.{statement}
 use Rattle.reader.proofs.chunks.read_chunk.Tie as tie
-use Rattle.reader.proofs.chunks.read_chunk.Reads as reads
-use Rattle.reader.proofs.chunks.read_chunk.Lts as lts
-use Rattle.laws.proofs.lacks_room.Reads as lacks-room-reads
-use Rattle.reader.proofs.chunks.answer.Reads as answer-reads
-use Rattle.reader.proofs.chunks.checked.Reads as checked-reads
-use Rattle.reader.proofs.chunks.unfinished.Reads as unfinished-reads
-use Rattle.reader.proofs.items.take_items.Reads as take-items-reads
 
 checked-requires : tie.Need-checked-requires
 checked-requires c κs = search needs

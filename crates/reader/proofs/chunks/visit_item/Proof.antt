@@ -8,10 +8,6 @@ use native.Mathlib.Omega.{arith}
 use borrow.Author.Needs.{needs}
 use Rattle.reader.proofs.chunks.visit_item.Statement.{statement}
 use Rattle.reader.proofs.chunks.visit_item.Tie as tie
-use Rattle.reader.proofs.chunks.visit_item.Reads as reads
-use Rattle.reader.proofs.chunks.visit_item.Lts as lts
-use Rattle.reader.proofs.chunks.visited.Reads as visited-reads
-use Rattle.visiting.proofs.visit_accesses.Reads as visit-accesses-reads
 
 slice-aggregate-visit-accesses : tie.Need-slice-aggregate-visit-accesses
 slice-aggregate-visit-accesses c = let s = c .before .before .before .before in let z = s .pre .0 in sym (length-take-le (s .args .t .kept) (s .args .item .now) (omega (arith, z .kept, z .place)))

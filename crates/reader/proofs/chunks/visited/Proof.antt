@@ -1,9 +1,6 @@
 use borrow.Author.Needs.{needs}
 use Rattle.reader.proofs.chunks.visited.Statement.{statement}
 use Rattle.reader.proofs.chunks.visited.Tie as tie
-use Rattle.reader.proofs.chunks.visited.Reads as reads
-use Rattle.reader.proofs.chunks.visited.Lts as lts
-use Rattle.reader.proofs.chunks.finished.Reads as finished-reads
 
 enum-known-a : tie.Need-enum-known-a
 enum-known-a c = search needs

@@ -8,8 +8,6 @@ use lib.Seq.{paste, paste-zero}
 use Rattle.reader.proofs.Places.{pasted, all-pasted}
 use Rattle.reader.proofs.items.fill.Statement.{statement}
 use Rattle.reader.proofs.items.fill.Tie as tie
-use Rattle.reader.proofs.items.fill.Reads as reads
-use Rattle.reader.proofs.items.fill.Lts as lts
 
 abbrev Inv-loop : tie.InvT-loop
 Inv-loop place₀ at from i₀ place i = (i ≤ length from) × (length place ≡ length place₀) × (place ≡ paste place₀ at from i)

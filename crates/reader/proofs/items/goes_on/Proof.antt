@@ -2,8 +2,6 @@ use Rattle.reader.specs.Items.{goesOn}
 use borrow.Author.Needs.{needs}
 use Rattle.reader.proofs.items.goes_on.Statement.{statement}
 use Rattle.reader.proofs.items.goes_on.Tie as tie
-use Rattle.reader.proofs.items.goes_on.Reads as reads
-use Rattle.reader.proofs.items.goes_on.Lts as lts
 
 enum-told : tie.Need-enum-told
 enum-told c = search needs

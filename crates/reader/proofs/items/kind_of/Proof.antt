@@ -2,8 +2,6 @@ use Rattle.reader.proofs.Places.{first-of}
 use borrow.Author.Needs.{needs}
 use Rattle.reader.proofs.items.kind_of.Statement.{statement}
 use Rattle.reader.proofs.items.kind_of.Tie as tie
-use Rattle.reader.proofs.items.kind_of.Reads as reads
-use Rattle.reader.proofs.items.kind_of.Lts as lts
 
 returns : tie.Need-returns
 returns c = search needs

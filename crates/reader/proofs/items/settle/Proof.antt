@@ -11,11 +11,6 @@ use native.Mathlib.Omega.{arith}
 use borrow.Author.Needs.{needs}
 use Rattle.reader.proofs.items.settle.Statement.{statement}
 use Rattle.reader.proofs.items.settle.Tie as tie
-use Rattle.reader.proofs.items.settle.Reads as reads
-use Rattle.reader.proofs.items.settle.Lts as lts
-use Rattle.reader.proofs.items.fill.Reads as fill-reads
-use Rattle.reader.proofs.kinds.is_file.Reads as is-file-reads
-use Rattle.reader.proofs.kinds.of_file.Reads as of-file-reads
 
 shared-slice-read-of-file : tie.Need-shared-slice-read-of-file
 shared-slice-read-of-file c = search needs

@@ -1,8 +1,6 @@
 use native.Mathlib.Omega.{arith}
 use Rattle.reader.proofs.items.smaller.Statement.{statement}
 use Rattle.reader.proofs.items.smaller.Tie as tie
-use Rattle.reader.proofs.items.smaller.Reads as reads
-use Rattle.reader.proofs.items.smaller.Lts as lts
 
 returns : tie.Need-returns
 returns c = omega arith

@@ -7,19 +7,12 @@ use Rattle.laws.specs.Lending.{splice}
 use lib.ListN.{length, getD, take, drop}
 use Prim.Native.Nat.{ℕ, _+_, _-_, _≤_, _<_}
 use mathlib.Core.List.{List, [], _∷_, _++_}
-use mathlib.Core.Logic.{inl, inr}
-use mathlib.Core.Path.{_≡_, refl, sym, ap, _∙_}
+use mathlib.Core.Logic.{inr}
+use mathlib.Core.Path.{_≡_, sym, ap, _∙_}
 use native.Mathlib.Omega.{arith}
 use borrow.Author.Needs.{needs}
 use Rattle.reader.proofs.items.take_item.Statement.{statement}
 use Rattle.reader.proofs.items.take_item.Tie as tie
-use Rattle.reader.proofs.items.take_item.Reads as reads
-use Rattle.reader.proofs.items.take_item.Lts as lts
-use Rattle.reader.proofs.items.fill.Reads as fill-reads
-use Rattle.reader.proofs.items.kind_of.Reads as kind-of-reads
-use Rattle.reader.proofs.items.settle.Reads as settle-reads
-use Rattle.reader.proofs.items.smaller.Reads as smaller-reads
-use Rattle.reader.proofs.kinds.length_of.Reads as length-of-reads
 
 -- the item's length, by the byte that comes next
 long-is : (c : tie.After-length-of) → let s = c .before .before .before .before .before .before .before in

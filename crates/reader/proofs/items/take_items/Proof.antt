@@ -1,14 +1,10 @@
-use Prim.Native.Nat.{ℕ, _≤_}
+use Prim.Native.Nat.{_≤_}
 use mathlib.Core.Path.{_≡_, refl, sym, _∙_}
 use lib.ListN.{length}
 use Rattle.reader.specs.Items.{onward, Ready}
 use Rattle.reader.proofs.Turns.{left, fewer, all-taken}
 use Rattle.reader.proofs.items.take_items.Statement.{statement}
 use Rattle.reader.proofs.items.take_items.Tie as tie
-use Rattle.reader.proofs.items.take_items.Reads as reads
-use Rattle.reader.proofs.items.take_items.Lts as lts
-use Rattle.reader.proofs.items.goes_on.Reads as goes-on-reads
-use Rattle.reader.proofs.items.take_item.Reads as take-item-reads
 
 abbrev Inv-loop : tie.InvT-loop
 Inv-loop item₀ file₀ chunk u₀ item file u =

@@ -1,14 +1,11 @@
 use denote.Ref.{now}
-use mathlib.Core.Path.{_≡_, ap, _∙_}
+use mathlib.Core.Path.{ap, _∙_}
 use lib.Dec.{eqb}
 use Rattle.registers.specs.declared.FileAnswer.{FileAnswer}
 use Rattle.reader.proofs.Places.{file-number}
 use borrow.Author.Needs.{needs}
 use Rattle.reader.proofs.kinds.is_file.Statement.{statement}
 use Rattle.reader.proofs.kinds.is_file.Tie as tie
-use Rattle.reader.proofs.kinds.is_file.Reads as reads
-use Rattle.reader.proofs.kinds.is_file.Lts as lts
-use Rattle.registers.proofs.RegisterFile.from_bytes.Reads as from-bytes-reads
 
 from-bytes-requires : tie.Need-from-bytes-requires
 from-bytes-requires c κs = search needs

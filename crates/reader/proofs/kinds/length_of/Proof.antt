@@ -3,8 +3,6 @@ use native.Mathlib.Omega.{arith}
 use Rattle.streams.specs.Streams.{lengthOf}
 use Rattle.reader.proofs.kinds.length_of.Statement.{statement}
 use Rattle.reader.proofs.kinds.length_of.Tie as tie
-use Rattle.reader.proofs.kinds.length_of.Reads as reads
-use Rattle.reader.proofs.kinds.length_of.Lts as lts
 
 returns : tie.Need-returns
 unfolding lengthOf

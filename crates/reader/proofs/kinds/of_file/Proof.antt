@@ -2,8 +2,6 @@ use borrow.Author.Needs.{needs}
 use Rattle.streams.specs.Streams.{ofFile}
 use Rattle.reader.proofs.kinds.of_file.Statement.{statement}
 use Rattle.reader.proofs.kinds.of_file.Tie as tie
-use Rattle.reader.proofs.kinds.of_file.Reads as reads
-use Rattle.reader.proofs.kinds.of_file.Lts as lts
 
 returns : tie.Need-returns
 unfolding ofFile

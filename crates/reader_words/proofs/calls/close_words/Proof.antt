@@ -7,11 +7,6 @@ use mathlib.Core.Path.{ap, ap₂, _∙_}
 use borrow.Author.Needs.{needs}
 use Rattle.reader_words.proofs.calls.close_words.Statement.{statement}
 use Rattle.reader_words.proofs.calls.close_words.Tie as tie
-use Rattle.reader_words.proofs.calls.close_words.Reads as reads
-use Rattle.reader_words.proofs.calls.close_words.Lts as lts
-use Rattle.reader.proofs.close_reader.Reads as close-reader-reads
-use Rattle.reader_words.proofs.places.unpack.Reads as unpack-reads
-use Rattle.reader_words.proofs.words.reader_in.Reads as reader-in-reads
 
 slice-aggregate-unpack : tie.Need-slice-aggregate-unpack
 slice-aggregate-unpack c = search needs

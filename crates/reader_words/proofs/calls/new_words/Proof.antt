@@ -4,8 +4,6 @@ use mathlib.Core.Path.{ap}
 use Rattle.reader_words.proofs.Holding.{fresh-words}
 use Rattle.reader_words.proofs.calls.new_words.Statement.{statement}
 use Rattle.reader_words.proofs.calls.new_words.Tie as tie
-use Rattle.reader_words.proofs.calls.new_words.Reads as reads
-use Rattle.reader_words.proofs.calls.new_words.Lts as lts
 
 returns : tie.Need-returns
 returns c = ap (λ (w : List ℕ). (0, w)) fresh-words

@@ -5,13 +5,6 @@ use mathlib.Core.Path.{ap, _∙_}
 use borrow.Author.Needs.{needs}
 use Rattle.reader_words.proofs.calls.read_words.Statement.{statement}
 use Rattle.reader_words.proofs.calls.read_words.Tie as tie
-use Rattle.reader_words.proofs.calls.read_words.Reads as reads
-use Rattle.reader_words.proofs.calls.read_words.Lts as lts
-use Rattle.reader.proofs.read_chunk.Reads as read-chunk-reads
-use Rattle.reader_words.proofs.calls.call_bits.Reads as call-bits-reads
-use Rattle.reader_words.proofs.places.unpack.Reads as unpack-reads
-use Rattle.reader_words.proofs.words.reader_in.Reads as reader-in-reads
-use Rattle.reader_words.proofs.words.words_of.Reads as words-of-reads
 
 slice-aggregate-unpack : tie.Need-slice-aggregate-unpack
 slice-aggregate-unpack c = search needs

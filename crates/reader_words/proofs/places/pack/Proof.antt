@@ -1,17 +1,13 @@
 use borrow.Author.Needs.{needs}
 use native.Mathlib.Omega.{arith}
-use Prim.Native.Nat.{ℕ, _+_, _-_, _*_, _≤_, zero-le}
-use mathlib.Core.Path.{_≡_, refl, sym, ap, _∙_}
-use mathlib.Core.List.{List}
-use lib.ListN.{length, set}
+use Prim.Native.Nat.{ℕ, _+_, _-_, _≤_, zero-le}
+use mathlib.Core.Path.{_≡_, ap, _∙_}
+use lib.ListN.{set}
 use lib.Seq.{sets}
 use Rattle.reader_words.specs.Words.{placeWords, wordsIn}
 use Rattle.reader_words.proofs.Packing.{toCome, none-stored, one-stored, all-stored}
 use Rattle.reader_words.proofs.places.pack.Statement.{statement}
 use Rattle.reader_words.proofs.places.pack.Tie as tie
-use Rattle.reader_words.proofs.places.pack.Reads as reads
-use Rattle.reader_words.proofs.places.pack.Lts as lts
-use Rattle.laws.proofs.u64_at.Reads as u64-at-reads
 
 abbrev Inv-loop : tie.InvT-loop
 Inv-loop words₀ from bytes i₀ words i = (i ≤ placeWords) × (sets words (from + i) (toCome bytes i) ≡ sets words₀ from (wordsIn bytes))

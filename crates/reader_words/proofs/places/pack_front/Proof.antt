@@ -6,15 +6,11 @@ use Prim.Native.Nat.{ℕ}
 use mathlib.Core.List.{List}
 use lib.Seq.{length-take-le}
 use lib.ListN.{take, length-take}
-use mathlib.Core.Path.{_≡_, sym, ap, _∙_}
+use mathlib.Core.Path.{sym, ap, _∙_}
 use native.Mathlib.Omega.{arith}
 use borrow.Author.Needs.{needs}
 use Rattle.reader_words.proofs.places.pack_front.Statement.{statement}
 use Rattle.reader_words.proofs.places.pack_front.Tie as tie
-use Rattle.reader_words.proofs.places.pack_front.Reads as reads
-use Rattle.reader_words.proofs.places.pack_front.Lts as lts
-use Rattle.reader.proofs.fill.Reads as fill-reads
-use Rattle.reader_words.proofs.places.pack.Reads as pack-reads
 
 slice-aggregate-fill : tie.Need-slice-aggregate-fill
 slice-aggregate-fill c = search needs

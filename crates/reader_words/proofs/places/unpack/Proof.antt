@@ -1,17 +1,13 @@
 use borrow.Author.Needs.{needs}
 use native.Mathlib.Omega.{arith}
-use Prim.Native.Nat.{ℕ, _+_, _-_, _*_, _≤_, zero-le}
-use mathlib.Core.Path.{_≡_, refl, sym, ap, _∙_}
-use mathlib.Core.List.{List}
+use Prim.Native.Nat.{_+_, _-_, _*_, _≤_, zero-le}
+use mathlib.Core.Path.{_≡_, refl}
 use lib.ListN.{length}
 use Rattle.laws.proofs.Lending.{part-length}
 use Rattle.reader_words.specs.Words.{placeWords}
 use Rattle.reader_words.proofs.Packing.{Laid, none-laid, one-laid, laid-long, all-laid}
 use Rattle.reader_words.proofs.places.unpack.Statement.{statement}
 use Rattle.reader_words.proofs.places.unpack.Tie as tie
-use Rattle.reader_words.proofs.places.unpack.Reads as reads
-use Rattle.reader_words.proofs.places.unpack.Lts as lts
-use Rattle.laws.proofs.put_u64.Reads as put-u64-reads
 
 abbrev Inv-loop : tie.InvT-loop
 Inv-loop words from out₀ i₀ out i = (i ≤ placeWords) × (length out ≡ length out₀) × Laid words from out₀ out i

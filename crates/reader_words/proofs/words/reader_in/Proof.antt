@@ -3,11 +3,6 @@ use mathlib.Core.Path.{sym, _∙_}
 use borrow.Author.Needs.{needs}
 use Rattle.reader_words.proofs.words.reader_in.Statement.{statement}
 use Rattle.reader_words.proofs.words.reader_in.Tie as tie
-use Rattle.reader_words.proofs.words.reader_in.Reads as reads
-use Rattle.reader_words.proofs.words.reader_in.Lts as lts
-use Rattle.reader.proofs.checked.Reads as checked-reads
-use Rattle.reader_words.proofs.words.same_words.Reads as same-words-reads
-use Rattle.reader_words.proofs.words.words_of.Reads as words-of-reads
 
 element-copy-out-t9 : tie.Need-element-copy-out-t9
 element-copy-out-t9 c = search needs

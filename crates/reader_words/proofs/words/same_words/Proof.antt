@@ -1,15 +1,13 @@
 use Rattle.reader_words.proofs.Ordered.{none-compared, one-same, one-differs}
 use Rattle.reader_words.specs.Words.{readerWords, sameWords}
 use mathlib.Core.Bool.{true}
-use mathlib.Core.Path.{_≡_, sym, ap, _∙_}
+use mathlib.Core.Path.{_≡_, sym}
 use native.Mathlib.Numerals.{add-one}
-use Prim.Native.Nat.{ℕ, _-_, _≤_, zero-le}
+use Prim.Native.Nat.{_-_, _≤_, zero-le}
 use native.Mathlib.Omega.{arith}
 use borrow.Author.Needs.{needs}
 use Rattle.reader_words.proofs.words.same_words.Statement.{statement}
 use Rattle.reader_words.proofs.words.same_words.Tie as tie
-use Rattle.reader_words.proofs.words.same_words.Reads as reads
-use Rattle.reader_words.proofs.words.same_words.Lts as lts
 
 abbrev Inv-loop : tie.InvT-loop
 Inv-loop a b i₀ i = (i ≤ readerWords) × (sameWords a b i ≡ true)

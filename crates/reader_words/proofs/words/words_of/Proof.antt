@@ -2,10 +2,6 @@ use Rattle.reader_words.proofs.Ordered.{written}
 use borrow.Author.Needs.{needs}
 use Rattle.reader_words.proofs.words.words_of.Statement.{statement}
 use Rattle.reader_words.proofs.words.words_of.Tie as tie
-use Rattle.reader_words.proofs.words.words_of.Reads as reads
-use Rattle.reader_words.proofs.words.words_of.Lts as lts
-use Rattle.reader_words.proofs.places.pack_front.Reads as pack-front-reads
-use Rattle.reader_words.proofs.words.bit.Reads as bit-reads
 
 pack-front-requires : tie.Need-pack-front-requires
 pack-front-requires c κs = search needs
