@@ -2,16 +2,18 @@
  * Machhurel: which registers and which memory an x86-64 instruction touched, in order.
  *
  * Every call takes bytes and answers one 64-bit number. Any bytes at any length get an answer: no call fails, traps, allocates or keeps
- * anything, and calls may run on any thread at once as long as no two write the same buffer, session or watch. A pointer may be NULL
- * where its length is 0. Otherwise it points to that many bytes, and a buffer, a session or a watch that is written overlaps no other
- * argument.
+ * anything, and calls may run on any thread at once as long as no two write the same buffer, session, watch or sheet. A pointer may be
+ * NULL where its length is 0. Otherwise it points to that many bytes, and a buffer, session, watch or sheet that is written overlaps no
+ * other argument.
  *
- * Records are 40 bytes of kind 0x10, register files 141 bytes of kind 0x20; numbers are little-endian. docs/FORMAT.md has every
- * field, table and rule.
+ * Records are 40 bytes of kind 0x10, 41 of kind 0x11 or 36 of kind 0x12, register files 141 bytes of kind 0x20 or 157 of kind 0x21;
+ * numbers are little-endian. docs/FORMAT.md has every field, table and rule.
  *
  *   record   0 kind 0x10; 1-2 opcode; 3 operand count; 4-7 specs; 8-15 four registers (bank, number); 16 memory size; 17 scale;
- *            18-25 displacement; 26-33 immediate; 34 prefix bits; 35 mask register; 36 behavior; 37 operand access; 38-39 list
- *   file     0 kind 0x20; 1-4 known bits (0-15 rax, rcx, rdx, rbx, rsp, rbp, rsi, rdi, r8 to r15; 16 rip); 5-140 seventeen values.
+ *            18-25 displacement; 26-33 immediate; 34 prefix bits; 35 mask register; 36 behavior; 37 operand access; 38-39 list;
+ *            of kind 0x11 also 40 segment (0 none, 1 fs, 2 gs); of kind 0x12 only 0-35, and the digest comes from the opcode
+ *   file     0 kind 0x20; 1-4 known bits (0-15 rax, rcx, rdx, rbx, rsp, rbp, rsi, rdi, r8 to r15; 16 rip); 5-140 seventeen values;
+ *            of kind 0x21 also bits 17 and 18 and 141-156, the bases of fs and gs.
  *            rip is that of the next instruction. The file is that before the instruction.
  *   event    1 register read, 2 register write (bank, number); 3 memory read, 4 memory write (8 address bytes, size);
  *            5 memory read, 6 memory write at an unknown address (size)
@@ -19,14 +21,16 @@
  * Refusal numbers, tested in this order; a refused call changes no byte of a buffer, and but for what 4 and 7 carry every other part
  * of its answer is 0:
  *
- *   1  the record is not 40 bytes of kind 0x10; in a log: an unknown kind, or an event cut short
+ *   1  the record's kind is unknown, or its length is not the kind's; in a log: an unknown kind, or an event cut short
  *   2  a field of the record is outside its table; in a log: a bad register, or a size outside 1 to 64; of a watch: a length outside
- *      1 to 8, or a pair past the limit; a block of more than 1,000 records
- *   3  the file is not 141 bytes of kind 0x20, or a known bit above 16 is set
+ *      1 to 8, or a pair past the limit; of a sheet: such a length, or a log over 65,536 bytes; a block of more than 1,000 records
+ *   9  the record is of kind 0x12, and its opcode has no base digest
+ *   3  the file's kind is unknown, its length is not the kind's, or a known bit above the kind's last is set
  *   4  the instruction is complex: its accesses are not a plain list. The answer carries the opcode
  *   5  an operand that is accessed names no register or memory, or a string list names no string slot
  *   6  memory is accessed and the record's memory size is 0
  *   7  the start lies past the buffer's end, or the buffer has too little room behind it. The answer carries the bytes needed
+ *  10  the sheet takes no more logs
  */
 #ifndef MACHHUREL_H
 #define MACHHUREL_H
@@ -49,8 +53,8 @@ extern "C" {
 #define MACHHUREL_ANSWER_BYTES 4
 
 /* A log never needs more bytes or events, a listing never more bytes. */
-#define MACHHUREL_LOG_BYTES 177
-#define MACHHUREL_LOG_EVENTS 38
+#define MACHHUREL_LOG_BYTES 201
+#define MACHHUREL_LOG_EVENTS 46
 #define MACHHUREL_LISTING_BYTES 34
 
 /* Every answer: the refusal number, 0 for none (for machhurel_event also MACHHUREL_FINISHED). */
@@ -126,26 +130,47 @@ typedef struct machhurel_watch {
 #define MACHHUREL_TOUCHED(answer) MACHHUREL_CAST(uint8_t, (((answer) >> 16) & 0xFF))
 
 /*
- * Writes the log of the record under the register file into log[start..], and answers its length in MACHHUREL_COUNT. Refuses 1 to 7. With
- * MACHHUREL_LOG_BYTES of room behind the start it never refuses 7. After 7 MACHHUREL_COUNT has the length of the log: the same call with
- * so many bytes behind its start succeeds.
+ * An acceptance sheet: totals over all events of the logs taken so far. machhurel_sheet_new writes it, and machhurel_sheet_add goes on with
+ * it. Any words at all get an answer; from machhurel_sheet_new on no total wraps, and each stays below two to the 53.
+ */
+typedef struct machhurel_sheet {
+    uint64_t address;
+    uint64_t length;     /* 1 to 8 bytes */
+    uint64_t logs;       /* taken so far */
+    uint64_t in;         /* bytes of memory read, at unknown addresses too, */
+    uint64_t out;        /* and written */
+    uint64_t part;       /* writes at known addresses that touched part of the variable, */
+    uint64_t known;      /* of so many writes at known addresses */
+    uint64_t reads[14];  /* register reads by bank, */
+    uint64_t writes[14]; /* and writes */
+    uint64_t sizes[64];  /* memory events by size, that of 1 byte first, at unknown addresses too */
+} machhurel_sheet;
+
+/* A sheet takes no more logs, and a log no more bytes. */
+#define MACHHUREL_SHEET_LOGS 4294967295
+#define MACHHUREL_SHEET_LOG_BYTES 65536
+
+/*
+ * Writes the log of the record under the register file into log[start..], and answers its length in MACHHUREL_COUNT. Refuses 1 to 7
+ * and 9. With MACHHUREL_LOG_BYTES of room behind the start it never refuses 7. After 7 MACHHUREL_COUNT has the length of the log: the
+ * same call with so many bytes behind its start succeeds.
  */
 uint64_t machhurel_visit(const uint8_t *record, size_t record_len, const uint8_t *file, size_t file_len, uint8_t *log, size_t log_len,
                          size_t start);
 
 /*
  * Writes the listing of the record's operands into out[start..]: flags, implicit operands, explicit operands, without a register file.
- * Answers its length in MACHHUREL_COUNT, after 7 too. Refuses 1, 2, 4, 7.
+ * Answers its length in MACHHUREL_COUNT, after 7 too. Refuses 1, 2, 9, 4, 7.
  */
 uint64_t machhurel_listing(const uint8_t *record, size_t record_len, uint8_t *out, size_t out_len, size_t start);
 
-/* The record's digest after fix-ups. Refuses 1, 2. */
+/* The record's digest after fix-ups. Refuses 1, 2, 9. */
 uint64_t machhurel_digest(const uint8_t *record, size_t record_len);
 
-/* The privilege level that the instruction needs. Refuses 1, 2. */
+/* The privilege level that the instruction needs. Refuses 1, 2, 9. */
 uint64_t machhurel_privilege(const uint8_t *record, size_t record_len);
 
-/* The exceptions that the instruction may raise. Refuses 1, 2. */
+/* The exceptions that the instruction may raise. Refuses 1, 2, 9. */
 uint64_t machhurel_exceptions(const uint8_t *record, size_t record_len);
 
 /*
@@ -165,10 +190,10 @@ uint64_t machhurel_difference(const uint8_t *first, size_t first_len, const uint
                               uint64_t *at);
 
 /*
- * Visits up to MACHHUREL_BLOCK_RECORDS records of `each` bytes (MACHHUREL_RECORD_BYTES) under one register file, which is parsed
- * once. Their logs go into log[start..] behind one another, without a gap, and equal those of single calls. Each record gets
+ * Visits up to MACHHUREL_BLOCK_RECORDS records of `each` bytes, the length of one of the three kinds, under one register file, which is
+ * parsed once. Their logs go into log[start..] behind one another, without a gap, and equal those of single calls. Each record gets
  * MACHHUREL_ANSWER_BYTES in `answers`: its number, the length of its log (after 7 the bytes needed), and the opcode after 4 as two
- * bytes, low byte first, else 0. A record that is refused 1, 2, 4, 5 or 6 writes no log, and the next goes on. The first that is
+ * bytes, low byte first, else 0. A record that is refused 1, 2, 9, 4, 5 or 6 writes no log, and the next goes on. The first that is
  * refused 7 gets its answer and ends the call: all later bytes of both buffers stay. MACHHUREL_NUMBER is 0 then, MACHHUREL_RECORDS the
  * number of records before it, which are all where none is refused 7, and MACHHUREL_COUNT the bytes of log written. With
  * MACHHUREL_LOG_BYTES a record behind the start none is.
@@ -183,7 +208,7 @@ uint64_t machhurel_block(const uint8_t *records, size_t records_len, size_t each
 /*
  * Visits the record under the register file as machhurel_visit does, from session->used on, and counts the log that it wrote. Answers as
  * machhurel_visit: the log's length in MACHHUREL_COUNT, after 7 the bytes that this append needs. Refused, it changes no byte and no
- * count. The buffer is lent to each call; one that ends before session->used is refused 7, where none of 1 to 6 comes first.
+ * count. The buffer is lent to each call; one that ends before session->used is refused 7, where no other comes first.
  */
 uint64_t machhurel_append(machhurel_session *session, const uint8_t *record, size_t record_len, const uint8_t *file, size_t file_len,
                           uint8_t *log, size_t log_len);
@@ -206,6 +231,16 @@ uint64_t machhurel_watch_step(machhurel_watch *watch, const uint8_t *record, siz
  * length in MACHHUREL_COUNT. Refuses 2 for another length than 1 to 8; then answers as machhurel_event does: 1, 2, MACHHUREL_FINISHED.
  */
 uint64_t machhurel_verdict(uint64_t address, uint64_t length, const uint8_t *log, size_t log_len, size_t at);
+
+/* A new sheet, whose watch is of the `length` bytes from `address` on. Refuses 2 for another length than 1 to 8; then nothing changes. */
+uint64_t machhurel_sheet_new(machhurel_sheet *sheet, uint64_t address, uint64_t length);
+
+/*
+ * Adds the events of a log. Refuses 10 at MACHHUREL_SHEET_LOGS, whatever the log is; then 2 where the sheet's length is not 1 to 8, and for
+ * a log of more than MACHHUREL_SHEET_LOG_BYTES; then by the log's own number, 1 or 2, where it does not read whole. A refused log changes
+ * nothing.
+ */
+uint64_t machhurel_sheet_add(machhurel_sheet *sheet, const uint8_t *log, size_t log_len);
 
 #ifdef __cplusplus
 }

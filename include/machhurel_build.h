@@ -93,6 +93,22 @@ static inline void machhurel_record_digest(uint8_t *record, unsigned behavior, u
     machhurel_put_number(record + 38, 2, list);
 }
 
+/* A MACHHUREL_SEGMENT_: the record is one of kind 0x11 from now on, in MACHHUREL_SEGMENT_RECORD_BYTES. */
+static inline void machhurel_record_segment(uint8_t *record, unsigned segment)
+{
+    record[0] = MACHHUREL_KIND_SEGMENT_RECORD;
+    record[MACHHUREL_RECORD_BYTES] = MACHHUREL_CAST(uint8_t, segment < 255 ? segment : 255);
+}
+
+/*
+ * The record is one of kind 0x12 from now on, its first MACHHUREL_EVERYDAY_RECORD_BYTES: it has no digest, so that accesses, flags and
+ * list that were set count for nothing. The opcode decides them, and one that has none is refused 9.
+ */
+static inline void machhurel_record_everyday(uint8_t *record)
+{
+    record[0] = MACHHUREL_KIND_EVERYDAY_RECORD;
+}
+
 /* A register file that knows nothing, in MACHHUREL_FILE_BYTES. */
 static inline void machhurel_file_begin(uint8_t *file)
 {
@@ -102,10 +118,19 @@ static inline void machhurel_file_begin(uint8_t *file)
     file[0] = MACHHUREL_KIND_FILE;
 }
 
-/* The value of a register, MACHHUREL_RAX to MACHHUREL_RIP (that of the next instruction). */
+/* The same with room for the bases of fs and gs, in MACHHUREL_BASED_FILE_BYTES. */
+static inline void machhurel_based_file_begin(uint8_t *file)
+{
+    size_t i;
+    for (i = 0; i < MACHHUREL_BASED_FILE_BYTES; i++)
+        file[i] = 0;
+    file[0] = MACHHUREL_KIND_BASED_FILE;
+}
+
+/* The value of a register, MACHHUREL_RAX to MACHHUREL_RIP (that of the next instruction); of a file with bases, to MACHHUREL_GS_BASE. */
 static inline void machhurel_file_know(uint8_t *file, unsigned number, uint64_t value)
 {
-    if (number > MACHHUREL_RIP) {
+    if (number > (file[0] == MACHHUREL_KIND_BASED_FILE ? MACHHUREL_GS_BASE : MACHHUREL_RIP)) {
         file[4] = 0x80;
         return;
     }

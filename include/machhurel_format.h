@@ -13,9 +13,20 @@
 
 /* Items of a trace, by their first byte, and how many bytes each has. */
 #define MACHHUREL_KIND_RECORD 0x10
+#define MACHHUREL_KIND_SEGMENT_RECORD 0x11
+#define MACHHUREL_KIND_EVERYDAY_RECORD 0x12
 #define MACHHUREL_KIND_FILE 0x20
+#define MACHHUREL_KIND_BASED_FILE 0x21
 #define MACHHUREL_RECORD_BYTES 40
+#define MACHHUREL_SEGMENT_RECORD_BYTES 41
+#define MACHHUREL_EVERYDAY_RECORD_BYTES 36
 #define MACHHUREL_FILE_BYTES 141
+#define MACHHUREL_BASED_FILE_BYTES 157
+
+/* Segments of a record of kind 0x11. */
+#define MACHHUREL_SEGMENT_NONE 0
+#define MACHHUREL_SEGMENT_FS 1
+#define MACHHUREL_SEGMENT_GS 2
 
 /* Refusals. */
 #define MACHHUREL_REFUSED_FORM 1
@@ -25,6 +36,8 @@
 #define MACHHUREL_REFUSED_OPERAND 5
 #define MACHHUREL_REFUSED_SIZE 6
 #define MACHHUREL_REFUSED_ROOM 7
+#define MACHHUREL_REFUSED_OPCODE 9
+#define MACHHUREL_REFUSED_LOGS 10
 
 /* Events of a log, by their first byte. */
 #define MACHHUREL_EVENT_REGISTER_READ 1
@@ -62,8 +75,11 @@
 #define MACHHUREL_BANK_EIP 10
 #define MACHHUREL_BANK_RFLAGS 11
 #define MACHHUREL_BANK_OTHER 12
+/* In a log alone: number 0 is the base of fs, 1 that of gs. */
+#define MACHHUREL_BANK_BASE 13
 
-/* General registers: their numbers in the banks Q, D, W and rB, and in a register file. RIP is a number of a file alone. */
+/* General registers: their numbers in the banks Q, D, W and rB, and in a register file. RIP is a number of a file alone, and so are
+ * the bases of fs and gs, of a file of kind 0x21. */
 #define MACHHUREL_RAX 0
 #define MACHHUREL_RCX 1
 #define MACHHUREL_RDX 2
@@ -81,6 +97,8 @@
 #define MACHHUREL_R14 14
 #define MACHHUREL_R15 15
 #define MACHHUREL_RIP 16
+#define MACHHUREL_FS_BASE 17
+#define MACHHUREL_GS_BASE 18
 
 /* Specs: what an operand is. */
 #define MACHHUREL_SPEC_NOTHING 0
@@ -165,7 +183,7 @@
 #define MACHHUREL_LIST_POP 27
 #define MACHHUREL_LIST_XLAT 28
 
-/* Opcodes that have a rule of their own. Any other number has none. */
+/* Opcodes that have a rule of their own. */
 #define MACHHUREL_OPCODE_MUL 1
 #define MACHHUREL_OPCODE_IMUL 2
 #define MACHHUREL_OPCODE_DIV 3
@@ -194,5 +212,27 @@
 #define MACHHUREL_OPCODE_BTR 26
 #define MACHHUREL_OPCODE_BTC 27
 #define MACHHUREL_OPCODE_LEA 28
+
+/* Opcodes that have a base digest and no rule. These, MUL and LEA are all that a record of kind 0x12 may have. Any other number has
+ * neither. */
+#define MACHHUREL_OPCODE_MOV 100
+#define MACHHUREL_OPCODE_MOVZX 101
+#define MACHHUREL_OPCODE_MOVSX 102
+#define MACHHUREL_OPCODE_ADD 103
+#define MACHHUREL_OPCODE_SUB 104
+#define MACHHUREL_OPCODE_AND 105
+#define MACHHUREL_OPCODE_OR 106
+#define MACHHUREL_OPCODE_XOR 107
+#define MACHHUREL_OPCODE_ADC 108
+#define MACHHUREL_OPCODE_SBB 109
+#define MACHHUREL_OPCODE_CMP 110
+#define MACHHUREL_OPCODE_TEST 111
+#define MACHHUREL_OPCODE_INC 112
+#define MACHHUREL_OPCODE_DEC 113
+#define MACHHUREL_OPCODE_NEG 114
+#define MACHHUREL_OPCODE_NOT 115
+#define MACHHUREL_OPCODE_XCHG 116
+#define MACHHUREL_OPCODE_PUSH 117
+#define MACHHUREL_OPCODE_POP 118
 
 #endif

@@ -1,5 +1,7 @@
 //! The library of an earlier state, through its C interface: see build.rs.
 
+use answers::expected::LOG_BYTES;
+
 extern "C" {
     fn before_visit(
         record: *const u8,
@@ -13,7 +15,7 @@ extern "C" {
 }
 
 /// The log's length; 0 where the record is refused.
-pub fn visit(record: &[u8], file: &[u8], log: &mut [u8; 177]) -> usize {
+pub fn visit(record: &[u8], file: &[u8], log: &mut [u8; LOG_BYTES]) -> usize {
     // SAFETY: each pointer and length are those of a slice.
     let answer = unsafe {
         before_visit(record.as_ptr(), record.len(), file.as_ptr(), file.len(), log.as_mut_ptr(), log.len(), 0)

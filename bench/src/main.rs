@@ -20,6 +20,7 @@ mod theirs;
 use std::hint::black_box;
 use std::os::raw::c_long;
 
+use answers::expected::LOG_BYTES;
 use inputs::Input;
 
 extern "C" {
@@ -33,7 +34,7 @@ fn now() -> f64 {
     unsafe { clock() as f64 / 1e6 }
 }
 
-type Visit = fn(&[u8], &[u8], &mut [u8; 177]) -> usize;
+type Visit = fn(&[u8], &[u8], &mut [u8; LOG_BYTES]) -> usize;
 
 /// Who visits, by name: the given Rust comes first.
 const SIDES: &[(&str, Visit)] = &[
@@ -48,7 +49,7 @@ const INPUTS: [(&str, fn(u64, usize) -> Input); 3] =
 
 /// One pass over records and their files: the bytes of all logs, added up.
 fn pass<'a>(pairs: impl Iterator<Item = (&'a [u8], &'a [u8])>, visit: Visit) -> usize {
-    let mut log = [0u8; 177];
+    let mut log = [0u8; LOG_BYTES];
     let mut total = 0;
     for (record, file) in pairs {
         total += visit(black_box(record), black_box(file), &mut log);
@@ -62,18 +63,15 @@ fn median(mut times: Vec<f64>) -> f64 {
     times[times.len() / 2]
 }
 
-/// Panics unless all sides write the same log for every record, byte for byte.
+/// Panics unless every side of the library writes for every record the log that document 02 makes of the given Rust's.
 fn assert_same_logs(input: &Input) {
     for (number, (record, file)) in input.pairs().enumerate() {
-        let logs: Vec<_> = SIDES
-            .iter()
-            .map(|(_, visit)| {
-                let mut log = [0u8; 177];
-                let length = visit(record, file, &mut log);
-                log[..length].to_vec()
-            })
-            .collect();
-        assert!(logs.iter().all(|log| *log == logs[0]), "record {number}: the logs differ");
+        let expected = theirs::corrected(record, file);
+        for (side, visit) in &SIDES[1..] {
+            let mut log = [0u8; LOG_BYTES];
+            let length = visit(record, file, &mut log);
+            assert!(log[..length] == expected, "record {number}: {side} has another log");
+        }
     }
 }
 

@@ -1,4 +1,5 @@
 //! The library, through its C interface.
+use answers::expected::LOG_BYTES;
 use std::hint::black_box;
 
 use machhurel::ffi::machhurel_visit;
@@ -7,7 +8,7 @@ use machhurel::{Session, Watch, LOG_BYTES};
 use crate::inputs::Input;
 
 /// The log's length; 0 where the record is refused.
-pub fn visit(record: &[u8], file: &[u8], log: &mut [u8; 177]) -> usize {
+pub fn visit(record: &[u8], file: &[u8], log: &mut [u8; LOG_BYTES]) -> usize {
     // SAFETY: each pointer and length are those of a slice.
     let answer = unsafe {
         machhurel_visit(record.as_ptr(), record.len(), file.as_ptr(), file.len(), log.as_mut_ptr(), log.len(), 0)

@@ -94,6 +94,11 @@ fn each_tried_trace_with_its_errors_and_status() {
 }
 
 #[test]
+fn a_thread_local_variable() {
+    golden("thread.text", &output(&["show", "samples/thread.trace"]));
+}
+
+#[test]
 fn several_traces_are_named_on_every_line() {
     let rip = "cli/tests/data/rip.trace";
     golden("several.text", &output(&["show", rip, rip]));

@@ -55,6 +55,46 @@ static void bytes_as_defined(void)
     check("fields", record[26] == 1 && record[33] == 8 && record[34] == 10 && record[35] == 7 && number_of(record, file) == 0);
 }
 
+/* P2 in segment fs, whose base is known: the base is read first, and the accesses lie that much further */
+static void a_segment(void)
+{
+    static const uint8_t log_begins[] = {2, 11, 0, 1, 13, 0, 1, 0, 3, 3, 8, 0x80, 0, 0, 0, 0, 0, 0, 8};
+    uint8_t record[MACHHUREL_SEGMENT_RECORD_BYTES], file[MACHHUREL_BASED_FILE_BYTES], log[MACHHUREL_LOG_BYTES];
+    uint64_t answer;
+    begin_p2(record);
+    machhurel_record_segment(record, MACHHUREL_SEGMENT_FS);
+    machhurel_based_file_begin(file);
+    machhurel_file_know(file, MACHHUREL_RBX, 0x1000);
+    machhurel_file_know(file, MACHHUREL_FS_BASE, 0x7000);
+    answer = machhurel_visit(record, sizeof record, file, sizeof file, log, sizeof log, 0);
+    check("a record in a segment", MACHHUREL_NUMBER(answer) == 0 && MACHHUREL_COUNT(answer) == 38);
+    check("the base is read and added", memcmp(log, log_begins, sizeof log_begins) == 0);
+    machhurel_record_segment(record, 3);
+    answer = machhurel_visit(record, sizeof record, file, sizeof file, log, sizeof log, 0);
+    check("segment 3", MACHHUREL_NUMBER(answer) == MACHHUREL_REFUSED_FIELD);
+    machhurel_file_know(file, MACHHUREL_GS_BASE + 1, 0);
+    machhurel_record_segment(record, MACHHUREL_SEGMENT_GS);
+    answer = machhurel_visit(record, sizeof record, file, sizeof file, log, sizeof log, 0);
+    check("a register behind the bases", MACHHUREL_NUMBER(answer) == MACHHUREL_REFUSED_FILE);
+}
+
+/* push rax without a digest: the opcode gives the accesses and the list, whatever was set */
+static void digest_by_opcode(void)
+{
+    uint8_t record[MACHHUREL_RECORD_BYTES];
+    uint64_t answer;
+    machhurel_record_begin(record, MACHHUREL_OPCODE_PUSH);
+    machhurel_record_operand(record, MACHHUREL_SPEC_REG_RRR, MACHHUREL_ACCESS_BOTH);
+    machhurel_record_everyday(record);
+    answer = machhurel_digest(record, MACHHUREL_EVERYDAY_RECORD_BYTES);
+    check("a push", MACHHUREL_NUMBER(answer) == 0 && MACHHUREL_LIST(answer) == MACHHUREL_LIST_PUSH &&
+                        MACHHUREL_OPERAND_ACCESS(answer) == MACHHUREL_ACCESS_READ);
+    machhurel_record_begin(record, MACHHUREL_OPCODE_POP + 1);
+    machhurel_record_everyday(record);
+    answer = machhurel_digest(record, MACHHUREL_EVERYDAY_RECORD_BYTES);
+    check("an opcode without a digest", answer == MACHHUREL_REFUSED_OPCODE);
+}
+
 static void mistakes_are_refused(void)
 {
     uint8_t record[MACHHUREL_RECORD_BYTES], file[MACHHUREL_FILE_BYTES];
@@ -81,6 +121,8 @@ static void mistakes_are_refused(void)
 int main(void)
 {
     bytes_as_defined();
+    a_segment();
+    digest_by_opcode();
     mistakes_are_refused();
     return failed;
 }

@@ -1,7 +1,7 @@
 //! The C interface itself, for callers that want the bits of an answer: include/machhurel.h says which bits hold what.
 //!
-//! Each pointer and length must be those of one slice, a pointer alone that of one number, and a watch ten words, a session three,
-//! that nobody else writes; that is all that a call asks.
+//! Each pointer and length must be those of one slice, a pointer alone that of one number, and a watch ten words, a session three, a
+//! sheet 99, that nobody else writes; that is all that a call asks.
 #![allow(missing_docs)]
 
 extern "C" {
@@ -62,6 +62,8 @@ extern "C" {
         file: *const u8,
         file_len: usize,
     ) -> u64;
+    pub fn machhurel_sheet_new(sheet: *mut [u64; 99], address: u64, length: u64) -> u64;
+    pub fn machhurel_sheet_add(sheet: *mut [u64; 99], log: *const u8, log_len: usize) -> u64;
     pub fn machhurel_verdict(
         address: u64,
         length: u64,

@@ -1,7 +1,8 @@
 //! Register files: a builder, and a look inside.
 use crate::calls::visit;
+use crate::item::length_of;
 use crate::refusal::Refusal;
-use crate::{FILE_BYTES, RECORD_BYTES};
+use crate::{BASED_FILE_BYTES, FILE_BYTES, RECORD_BYTES};
 use core::ops::Deref;
 
 /// A register that a file can know.
@@ -26,6 +27,10 @@ pub enum Known {
     R15,
     /// That of the next instruction.
     Rip,
+    /// The base of fs: a file that knows it is of kind 0x21.
+    FsBase,
+    /// The base of gs: a file that knows it is of kind 0x21.
+    GsBase,
 }
 
 impl Known {
@@ -39,24 +44,33 @@ impl Known {
     fn bit(self) -> (usize, u8) {
         (1 + self as usize / 8, 1 << (self as usize % 8))
     }
+
+    /// The base of a segment.
+    fn is_base(self) -> bool {
+        matches!(self, Known::FsBase | Known::GsBase)
+    }
 }
 
-/// A register file of kind 0x20. No file that this type holds is refused.
+const PLAIN: u8 = 0x20;
+const BASED: u8 = 0x21;
+
+/// A register file: of kind 0x21 once it knows the base of a segment, else of kind 0x20. No file that this type holds is refused.
 ///
 /// ```
 /// use machhurel::{known, Known, RegisterFile};
 /// let file = RegisterFile::new().with(Known::Rbx, 0x1000);
 /// assert_eq!(known(&file, Known::Rbx), Some(0x1000));
 /// assert_eq!(known(&file, Known::Rax), None);
+/// assert_eq!(known(&file.with(Known::FsBase, 0x7000), Known::FsBase), Some(0x7000));
 /// ```
 #[derive(Clone, Copy, Debug, PartialEq, Eq, Hash)]
-pub struct RegisterFile([u8; FILE_BYTES]);
+pub struct RegisterFile([u8; BASED_FILE_BYTES]);
 
 impl RegisterFile {
     /// A file that knows nothing.
     pub const fn new() -> RegisterFile {
-        let mut bytes = [0; FILE_BYTES];
-        bytes[0] = 0x20;
+        let mut bytes = [0; BASED_FILE_BYTES];
+        bytes[0] = PLAIN;
         RegisterFile(bytes)
     }
 
@@ -66,7 +80,19 @@ impl RegisterFile {
         let (byte, bit) = register.bit();
         self.0[byte] |= bit;
         self.0[register.value_at()].copy_from_slice(&value.to_le_bytes());
+        if register.is_base() {
+            self.0[0] = BASED;
+        }
         self
+    }
+
+    fn bytes(&self) -> &[u8] {
+        let length = if self.0[0] == BASED {
+            BASED_FILE_BYTES
+        } else {
+            FILE_BYTES
+        };
+        &self.0[..length]
     }
 }
 
@@ -80,21 +106,25 @@ impl Deref for RegisterFile {
     type Target = [u8];
 
     fn deref(&self) -> &[u8] {
-        &self.0
+        self.bytes()
     }
 }
 
 /// The bytes join as a trace: `[file, file].concat()`.
 impl core::borrow::Borrow<[u8]> for RegisterFile {
     fn borrow(&self) -> &[u8] {
-        &self.0
+        self.bytes()
     }
 }
 
 /// What a register file knows of a register; nothing where the bytes are no register file.
 pub fn known(file: &[u8], register: Known) -> Option<u64> {
     let (byte, bit) = register.bit();
-    if file.first() != Some(&0x20) || file.len() != FILE_BYTES || file.get(byte)? & bit == 0 {
+    let kind = *file.first()?;
+    if ![PLAIN, BASED].contains(&kind) || length_of(kind) != Some(file.len()) {
+        return None;
+    }
+    if file.get(byte)? & bit == 0 {
         return None;
     }
     let value = file.get(register.value_at())?;

@@ -1,5 +1,7 @@
 //! The items of a trace: register files and records, one after another, in any number.
-use crate::{FILE_BYTES, RECORD_BYTES};
+use crate::{
+    BASED_FILE_BYTES, EVERYDAY_RECORD_BYTES, FILE_BYTES, RECORD_BYTES, SEGMENT_RECORD_BYTES,
+};
 
 /// What an item is.
 #[derive(Clone, Copy, Debug, PartialEq, Eq, Hash)]
@@ -21,10 +23,19 @@ impl Class {
 }
 
 /// The kinds of items: the byte, what it begins, and how many bytes the item has, its kind among them. A later kind is one more row.
-pub const KINDS: [(u8, Class, usize); 2] = [
+pub const KINDS: [(u8, Class, usize); 5] = [
     (0x10, Class::Record, RECORD_BYTES),
+    (0x11, Class::Record, SEGMENT_RECORD_BYTES),
+    (0x12, Class::Record, EVERYDAY_RECORD_BYTES),
     (0x20, Class::File, FILE_BYTES),
+    (0x21, Class::File, BASED_FILE_BYTES),
 ];
+
+/// The bytes of an item of a kind, where there is one.
+pub(crate) fn length_of(kind: u8) -> Option<usize> {
+    let row = KINDS.iter().find(|(known, _, _)| *known == kind)?;
+    Some(row.2)
+}
 
 /// A whole item.
 #[derive(Clone, Copy, Debug, PartialEq, Eq, Hash)]

@@ -47,6 +47,7 @@ mod record;
 mod refusal;
 mod register;
 mod session;
+mod sheet;
 mod spec;
 mod watch;
 
@@ -63,20 +64,27 @@ pub use listing::{Listed, Listing, Operand};
 pub use opcode::opcode_name;
 #[cfg(feature = "std")]
 pub use reader::{TraceError, TraceReader};
-pub use record::{Record, RecordBuilder};
+pub use record::{Record, RecordBuilder, Segment};
 pub use refusal::{Refusal, RefusedRecord};
 pub use register::{bank_name, Register, BANK_COUNT};
 pub use session::Session;
+pub use sheet::{Sheet, SHEET_LOGS, SHEET_LOG_BYTES};
 pub use spec::Spec;
 pub use watch::{verdict, Named, Names, Step, Tally, Verdict, Watch, WATCH_PAIRS};
 
-/// The bytes of a record.
+/// The bytes of a record of kind 0x10.
 pub const RECORD_BYTES: usize = 40;
-/// The bytes of a register file.
+/// The bytes of a record of kind 0x11, which names a segment.
+pub const SEGMENT_RECORD_BYTES: usize = RECORD_BYTES + 1;
+/// The bytes of a record of kind 0x12, which brings no digest.
+pub const EVERYDAY_RECORD_BYTES: usize = 36;
+/// The bytes of a register file of kind 0x20.
 pub const FILE_BYTES: usize = 141;
+/// The bytes of a register file of kind 0x21, which has the bases of fs and gs.
+pub const BASED_FILE_BYTES: usize = FILE_BYTES + 16;
 /// No log is longer: with so much room behind the start no visit is refused for room.
-pub const LOG_BYTES: usize = 177;
+pub const LOG_BYTES: usize = 201;
 /// No log has more events.
-pub const LOG_EVENTS: usize = 38;
+pub const LOG_EVENTS: usize = 46;
 /// No listing is longer.
 pub const LISTING_BYTES: usize = 34;

@@ -5,18 +5,41 @@ use crate::file::RegisterFile;
 use crate::refusal::Refusal;
 use crate::register::Register;
 use crate::spec::Spec;
-use crate::{LOG_BYTES, RECORD_BYTES};
+use crate::{EVERYDAY_RECORD_BYTES, LOG_BYTES, RECORD_BYTES, SEGMENT_RECORD_BYTES};
 use core::ops::Deref;
 
-/// A record of kind 0x10 that [`RecordBuilder::build`] has let through.
+/// A segment whose base is added to the addresses of a record.
 #[derive(Clone, Copy, Debug, PartialEq, Eq, Hash)]
-pub struct Record([u8; RECORD_BYTES]);
+#[allow(missing_docs)]
+pub enum Segment {
+    Fs,
+    Gs,
+}
+
+const PLAIN: u8 = 0x10;
+const SEGMENTED: u8 = 0x11;
+const EVERYDAY: u8 = 0x12;
+
+/// A record that [`RecordBuilder::build`] has let through: of kind 0x11 where it names a segment, of kind 0x12 where it leaves the digest
+/// to its opcode, else of kind 0x10.
+#[derive(Clone, Copy, Debug, PartialEq, Eq, Hash)]
+pub struct Record([u8; SEGMENT_RECORD_BYTES]);
+
+/// The bytes of a record, by its kind.
+fn bytes_of(record: &[u8; SEGMENT_RECORD_BYTES]) -> &[u8] {
+    let length = match record[0] {
+        SEGMENTED => SEGMENT_RECORD_BYTES,
+        EVERYDAY => EVERYDAY_RECORD_BYTES,
+        _ => RECORD_BYTES,
+    };
+    &record[..length]
+}
 
 impl Record {
     /// A record that does nothing yet, of this opcode.
     pub fn builder(opcode: u16) -> RecordBuilder {
-        let mut bytes = [0; RECORD_BYTES];
-        bytes[0] = 0x10;
+        let mut bytes = [0; SEGMENT_RECORD_BYTES];
+        bytes[0] = PLAIN;
         bytes[1..3].copy_from_slice(&opcode.to_le_bytes());
         RecordBuilder { bytes }
     }
@@ -26,14 +49,14 @@ impl Deref for Record {
     type Target = [u8];
 
     fn deref(&self) -> &[u8] {
-        &self.0
+        bytes_of(&self.0)
     }
 }
 
 /// The bytes join as a trace: `[record, record].concat()`.
 impl core::borrow::Borrow<[u8]> for Record {
     fn borrow(&self) -> &[u8] {
-        &self.0
+        bytes_of(&self.0)
     }
 }
 
@@ -54,7 +77,7 @@ impl core::borrow::Borrow<[u8]> for Record {
 #[derive(Clone, Copy, Debug, PartialEq, Eq, Hash)]
 #[must_use]
 pub struct RecordBuilder {
-    bytes: [u8; RECORD_BYTES],
+    bytes: [u8; SEGMENT_RECORD_BYTES],
 }
 
 const COUNT: usize = 3;
@@ -69,6 +92,7 @@ const MASK: usize = 35;
 const BEHAVIOR: usize = 36;
 const OPERAND_ACCESS: usize = 37;
 const LIST: usize = 38;
+const SEGMENT: usize = RECORD_BYTES;
 const COMPLEX: u8 = 0x20;
 
 impl RecordBuilder {
@@ -172,6 +196,37 @@ impl RecordBuilder {
         self.set_bits(PREFIXES, 8, 8)
     }
 
+    /// The segment of a memory operand: its base is read first and added last.
+    pub fn segment(self, segment: Segment) -> Self {
+        let number = match segment {
+            Segment::Fs => 1,
+            Segment::Gs => 2,
+        };
+        self.set(0, SEGMENTED).set(SEGMENT, number)
+    }
+
+    /// The digest is that of the opcode: accesses, flags, privilege and list that are set count for nothing. An opcode that has none is
+    /// refused 9. This kind has no segment: of the two the one that is set last decides.
+    ///
+    /// ```
+    /// use machhurel::{Access, Record, Refusal, Register, Spec};
+    /// // add rax, rbx
+    /// let add = |opcode| {
+    ///     Record::builder(opcode)
+    ///         .operand(Spec::RegRRR, Access::None)
+    ///         .operand(Spec::RegMMM, Access::None)
+    ///         .rrr(Register::quad(0))
+    ///         .mmm(Register::quad(3))
+    ///         .everyday()
+    /// };
+    /// assert_eq!(machhurel::digest(&add(103).build()?)?.operand_access, 0x07);
+    /// assert_eq!(add(119).build(), Err(Refusal::Opcode));
+    /// # Ok::<(), Refusal>(())
+    /// ```
+    pub fn everyday(self) -> Self {
+        self.set(0, EVERYDAY)
+    }
+
     /// The mask register, 0 for none.
     pub fn mask(self, number: u8) -> Self {
         self.set(MASK, number)
@@ -199,16 +254,22 @@ impl RecordBuilder {
 
     /// The number of the implicit list, 0 to 28.
     pub fn list(mut self, number: u16) -> Self {
-        self.bytes[LIST..].copy_from_slice(&number.to_le_bytes());
+        self.bytes[LIST..SEGMENT].copy_from_slice(&number.to_le_bytes());
         self
     }
 
     /// The record, or why every visit of it would be refused. The library itself decides. That a record said to be complex is refused 4
     /// is no mistake.
     pub fn build(self) -> Result<Record, Refusal> {
-        let answer = visit(&self.bytes, &RegisterFile::new(), &mut [0; LOG_BYTES], 0);
+        let bytes = bytes_of(&self.bytes);
+        let answer = visit(bytes, &RegisterFile::new(), &mut [0; LOG_BYTES], 0);
         match answer {
-            Ok(_) | Err(Refusal::Complex { .. }) => Ok(Record(self.bytes)),
+            Ok(_) | Err(Refusal::Complex { .. }) => {
+                // what the kind has no byte for is no part of the record
+                let mut record = [0; SEGMENT_RECORD_BYTES];
+                record[..bytes.len()].copy_from_slice(bytes);
+                Ok(Record(record))
+            }
             Err(refusal) => Err(refusal),
         }
     }

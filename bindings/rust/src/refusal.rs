@@ -5,12 +5,12 @@ use core::fmt;
 /// Why a call was refused. A refused call changes no byte of a buffer.
 #[derive(Clone, Copy, Debug, PartialEq, Eq, Hash)]
 pub enum Refusal {
-    /// 1: not 40 bytes of kind 0x10; in a log, an unknown kind or an event cut short.
+    /// 1: an unknown kind, or not the kind's length; in a log, an unknown kind or an event cut short.
     Form,
     /// 2: a field outside its table; in a log, a bad register or a size outside 1 to 64; of a watch, a length outside 1 to 8 or a pair
-    /// past the limit.
+    /// past the limit; of a sheet, such a length or a log over 65,536 bytes.
     Field,
-    /// 3: the register file is not 141 bytes of kind 0x20, or knows a register that there is not.
+    /// 3: the register file's kind is unknown, its length is not the kind's, or it knows a register that the kind has not.
     File,
     /// 4: the instruction's accesses are not a plain list.
     Complex {
@@ -26,11 +26,15 @@ pub enum Refusal {
         /// How many bytes behind the start the same call needs: those of its log or listing.
         needed: usize,
     },
+    /// 9: the record is of the kind that brings no digest, and its opcode has none. Tested after 2 and before 3.
+    Opcode,
+    /// 10: the sheet takes no more logs.
+    Logs,
 }
 
 impl Refusal {
     /// The highest number of a refusal.
-    pub const MOST: u8 = 7;
+    pub const MOST: u8 = 10;
 
     /// The refusal's number, and its reason in words.
     const fn row(self) -> (u8, &'static str) {
@@ -42,6 +46,8 @@ impl Refusal {
             Refusal::Operand => (5, "an accessed operand names no register or memory"),
             Refusal::Size => (6, "memory is accessed and its size is 0"),
             Refusal::Room { .. } => (7, "too little room behind the start"),
+            Refusal::Opcode => (9, "kind 0x12 has no digest for this opcode"),
+            Refusal::Logs => (10, "the sheet takes no more logs"),
         }
     }
 
@@ -55,7 +61,7 @@ impl Refusal {
         self.row().1
     }
 
-    /// The refusal in an answer's bits, or none. The library answers no number above 7.
+    /// The refusal in an answer's bits, or none. The library answers no other number.
     pub(crate) fn of(answer: u64) -> Option<Refusal> {
         Some(match answer & 0xFF {
             0 => return None,
@@ -67,6 +73,8 @@ impl Refusal {
             },
             5 => Refusal::Operand,
             6 => Refusal::Size,
+            9 => Refusal::Opcode,
+            10 => Refusal::Logs,
             _ => Refusal::Room {
                 needed: (answer >> 32) as usize,
             },
@@ -81,12 +89,14 @@ impl Refusal {
         }
     }
 
-    /// The refusal of a record whose opcode is this: in words, with the opcode's name where it has one.
+    /// The refusal of a record whose opcode is this: in words, with the opcode where it has a name or is the reason.
     ///
     /// ```
     /// let refusal = machhurel::Refusal::Size;
     /// assert_eq!(refusal.of_opcode(28).to_string(), "refused 6 (opcode 28, LEA): memory is accessed and its size is 0");
     /// assert_eq!(refusal.of_opcode(40).to_string(), "refused 6: memory is accessed and its size is 0");
+    /// let refusal = machhurel::Refusal::Opcode;
+    /// assert_eq!(refusal.of_opcode(40).to_string(), "refused 9 (opcode 40): kind 0x12 has no digest for this opcode");
     /// ```
     pub fn of_opcode(self, opcode: u16) -> RefusedRecord {
         RefusedRecord {
@@ -113,8 +123,9 @@ pub struct RefusedRecord {
 
 impl fmt::Display for RefusedRecord {
     fn fmt(&self, f: &mut fmt::Formatter<'_>) -> fmt::Result {
-        let named = opcode_name(self.opcode).map(|_| self.opcode);
-        say(f, self.refusal, self.refusal.opcode().or(named))
+        let told = opcode_name(self.opcode).is_some() || self.refusal == Refusal::Opcode;
+        let opcode = if told { Some(self.opcode) } else { None };
+        say(f, self.refusal, self.refusal.opcode().or(opcode))
     }
 }
 

@@ -5,7 +5,7 @@ use core::fmt;
 /// A register, by its bank and its number there.
 #[derive(Clone, Copy, Debug, PartialEq, Eq, Hash)]
 pub struct Register {
-    /// 0 Q, 1 D, 2 W, 3 rB, 4 B, 5 X, 6 Y, 7 Z, 8 K, 9 RIP, 10 EIP, 11 RFLAGS, 12 other.
+    /// 0 Q, 1 D, 2 W, 3 rB, 4 B, 5 X, 6 Y, 7 Z, 8 K, 9 RIP, 10 EIP, 11 RFLAGS, 12 other; in a log also 13, the bases of fs and gs.
     pub bank: u8,
     /// The number in the bank.
     pub number: u8,
@@ -39,7 +39,7 @@ const LOWS: [&str; 16] = [
 const BYTES: [&str; 8] = ["al", "cl", "dl", "bl", "ah", "ch", "dh", "bh"];
 
 /// Each bank by its number: its name, and those of its registers. A later bank is one more row.
-const BANKS: [(&str, Names); 13] = [
+const BANKS: [(&str, Names); 14] = [
     ("Q", Own(&QUADS)),
     ("D", Own(&DOUBLES)),
     ("W", Own(&WORDS)),
@@ -53,6 +53,7 @@ const BANKS: [(&str, Names); 13] = [
     ("EIP", Own(&["eip"])),
     ("RFLAGS", Own(&["rflags"])),
     ("other", Stem("other ", 32)),
+    ("base", Own(&["fs base", "gs base"])),
 ];
 
 /// How many banks there are; they are numbered from 0.
@@ -74,7 +75,8 @@ impl Register {
         Register { bank: 1, number }
     }
 
-    /// Whether the bank and the number stand in the table.
+    /// Whether the bank and the number stand in the table, and an event may name it. A record may name it too, but for the bases of
+    /// fs and gs.
     pub fn exists(self) -> bool {
         match BANKS.get(usize::from(self.bank)) {
             Some((_, Own(names))) => usize::from(self.number) < names.len(),

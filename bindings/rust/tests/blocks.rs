@@ -121,6 +121,42 @@ fn a_block_is_its_single_calls() {
     }
 }
 
+/// Records that leave the digest to their opcode: 36 bytes each, and 9 goes on as 2 does.
+#[test]
+fn a_block_of_records_without_a_digest() {
+    let mut random = Random(0x36);
+    let (mut logs, mut nine) = (0, 0);
+    for _ in 0..1_000 {
+        let bare = |random: &mut Random| {
+            let mut record = any_record(random);
+            record.truncate(EVERYDAY_RECORD_BYTES);
+            if record[0] == 0x10 {
+                record[..3].copy_from_slice(&[0x12, 100 + random.below(22) as u8, 0]);
+            }
+            record
+        };
+        let records: Vec<_> = (0..random.below(40)).map(|_| bare(&mut random)).collect();
+        let (file, room) = (any_file(&mut random), random.index(800));
+        let answers = 4 * records.len();
+        let found = block(
+            &records.concat(),
+            EVERYDAY_RECORD_BYTES,
+            &file,
+            room,
+            3,
+            answers,
+        );
+        assert_eq!(found, singly(&records, &file, room, 3, answers));
+        logs += usize::from(found.0 >> 32 > 0);
+        nine += found
+            .2
+            .chunks(4)
+            .filter(|four| **four == [9, 0, 0, 0])
+            .count();
+    }
+    assert!(logs > 500 && nine > 500, "{logs} {nine}");
+}
+
 #[test]
 fn the_answers_one_after_the_other() {
     let mut random = Random(0xA5_0B10C);
@@ -169,7 +205,7 @@ fn the_whole_call_refused() {
     let refused = |number, room, answers| (number, vec![BEFORE; room], vec![BEFORE; answers]);
     // another length than a record has, of no bytes too
     for each in (0..200)
-        .filter(|&each| each != RECORD_BYTES)
+        .filter(|each| ![EVERYDAY_RECORD_BYTES, RECORD_BYTES, SEGMENT_RECORD_BYTES].contains(each))
         .chain([usize::MAX])
     {
         assert_eq!(block(&[], each, &good, 9, 0, 9), refused(1, 9, 9));
@@ -185,7 +221,10 @@ fn the_whole_call_refused() {
         refused(7, 9, 3_999)
     );
     assert_eq!(block(&[], 40, &bad, 9, 0, 9), refused(3, 9, 9));
+    assert_eq!(block(&zeros, 41, &bad, 9, 0, 0), refused(2, 9, 0));
+    assert_eq!(block(&zeros[..36_036], 36, &bad, 9, 0, 0), refused(2, 9, 0));
     // no records, under a good file
+    assert_eq!(block(&[], 41, &good, 9, 99, 9), refused(0, 9, 9));
     assert_eq!(block(&[], 40, &good, 9, 99, 9), refused(0, 9, 9));
 }
 

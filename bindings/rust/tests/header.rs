@@ -61,6 +61,8 @@ fn registers() {
         assert_eq!(all.get(&name), Some(&u64::from(number)), "{name}");
     }
     assert_eq!(all.get("RIP"), Some(&(Known::Rip as u64)));
+    assert_eq!(all.get("FS_BASE"), Some(&(Known::FsBase as u64)));
+    assert_eq!(all.get("GS_BASE"), Some(&(Known::GsBase as u64)));
 }
 
 #[test]
@@ -70,12 +72,17 @@ fn kinds_lengths_and_bounds() {
     let kinds: Vec<u64> = group("KIND_").into_iter().map(|(kind, _)| kind).collect();
     assert_eq!(kinds, KINDS.map(|(kind, _, _)| u64::from(kind)));
     assert_eq!(of("RECORD_BYTES"), Some(RECORD_BYTES));
+    assert_eq!(of("SEGMENT_RECORD_BYTES"), Some(SEGMENT_RECORD_BYTES));
+    assert_eq!(of("EVERYDAY_RECORD_BYTES"), Some(EVERYDAY_RECORD_BYTES));
     assert_eq!(of("FILE_BYTES"), Some(FILE_BYTES));
+    assert_eq!(of("BASED_FILE_BYTES"), Some(BASED_FILE_BYTES));
     assert_eq!(of("LOG_BYTES"), Some(LOG_BYTES));
     assert_eq!(of("LOG_EVENTS"), Some(LOG_EVENTS));
     assert_eq!(of("LISTING_BYTES"), Some(LISTING_BYTES));
     assert_eq!(of("BLOCK_RECORDS"), Some(BLOCK_RECORDS));
     assert_eq!(of("ANSWER_BYTES"), Some(ANSWER_BYTES));
+    assert_eq!(of("SHEET_LOGS"), Some(SHEET_LOGS as usize));
+    assert_eq!(of("SHEET_LOG_BYTES"), Some(SHEET_LOG_BYTES));
 }
 
 #[test]
@@ -93,6 +100,8 @@ fn accesses_refusals_and_lists() {
         Refusal::Operand,
         Refusal::Size,
         Refusal::Room { needed: 0 },
+        Refusal::Opcode,
+        Refusal::Logs,
     ];
     for ((number, name), refusal) in group("REFUSED_").into_iter().zip(refusals) {
         assert_eq!(u64::from(refusal.number()), number);

@@ -18,7 +18,10 @@ fn the_registers_are_those_that_the_library_takes() {
             record[8] = bank;
             record[9] = number;
             let register = Register { bank, number };
-            assert_eq!(register.exists(), digest(&record).is_ok(), "{register}");
+            let logged = Events::new(&[1, bank, number]).all(|event| event.is_ok());
+            assert_eq!(register.exists(), logged, "{register}");
+            let in_records = register.exists() && bank_name(bank) != Some("base");
+            assert_eq!(in_records, digest(&record).is_ok(), "{register}");
             assert_eq!(
                 register.exists(),
                 !register.to_string().starts_with("bank ")
@@ -45,6 +48,8 @@ fn names_of_registers() {
         (10, 0, "eip"),
         (11, 0, "rflags"),
         (12, 31, "other 31"),
+        (13, 0, "fs base"),
+        (13, 1, "gs base"),
         (4, 8, "bank 4 number 8"),
         (200, 0, "bank 200 number 0"),
     ] {
@@ -68,9 +73,11 @@ fn names_of_opcodes() {
     let named: Vec<u16> = (0..=u16::MAX)
         .filter(|k| opcode_name(*k).is_some())
         .collect();
-    assert_eq!(named, (1..=28).collect::<Vec<_>>());
+    assert_eq!(named, (1..=28).chain(100..=118).collect::<Vec<_>>());
     assert_eq!(opcode_name(1), Some("MUL"));
     assert_eq!(opcode_name(28), Some("LEA"));
+    assert_eq!(opcode_name(100), Some("MOV"));
+    assert_eq!(opcode_name(117), Some("PUSH"));
 }
 
 #[test]
@@ -119,6 +126,11 @@ fn words_of_refusals() {
             Refusal::Room { needed: 32 },
             "refused 7 (32 bytes needed): too little room behind the start",
         ),
+        (
+            Refusal::Opcode,
+            "refused 9: kind 0x12 has no digest for this opcode",
+        ),
+        (Refusal::Logs, "refused 10: the sheet takes no more logs"),
     ] {
         assert_eq!(refusal.to_string(), words);
         assert!(refusal.number() <= Refusal::MOST);

@@ -5,6 +5,7 @@ mod words; // words.rt: numbers of 64 bits
 
 pub use places::Sources;
 pub use places::resolve;
+pub use values::cut;
 pub use values::low;
 pub use values::plus;
 pub use values::sum;

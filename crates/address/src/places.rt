@@ -3,20 +3,25 @@ use crate::values::plus;
 use crate::values::scaled;
 use crate::values::sum;
 use record::Record;
+use registers::FS;
+use registers::GS;
 use registers::RegSpec;
 use registers::RegisterFile;
 use registers::Value;
 ghost use mathlib.Core.Path.{_≡_};
+ghost use Rattle.registers.specs.Files.{valueOf};
+ghost use Rattle.definition.specs.Addresses.{segmentRegister};
 ghost use Rattle.address.specs.Places.{impliedPlace, sourcesOf};
 
 // What the addresses of a record are made of: `regs[1]`, `regs[2]` times scale, the two registers that specs 20 to 23 name whole or
-// by their low half, and where the memory of the implicit list lies.
+// by their low half, where the memory of the implicit list lies, and the base of the record's segment.
 pub struct Sources {
     pub base: Value,
     pub index: Value,
     pub rdi: Value,
     pub rsi: Value,
     pub implied: Value,
+    pub segment: Value,
 }
 
 const RBX: RegSpec = RegSpec { bank: 0, number: 3 };
@@ -47,6 +52,17 @@ fn implied_place(f: RegisterFile, list: u16) -> Value
     }
 }
 
+// The base of a segment: that of gs where the segment is not fs.
+fn segment_base(f: RegisterFile, segment: u8) -> Value
+    ensures { λ r. ⌜ r ≡ valueOf f (segmentRegister segment) ⌝ }
+{
+    if segment == 1 {
+        f.value(FS)
+    } else {
+        f.value(GS)
+    }
+}
+
 // The record is one after fix-ups.
 pub fn resolve(f: RegisterFile, x: Record) -> Sources
     ensures { λ r. ⌜ r ≡ sourcesOf f x ⌝ }
@@ -60,5 +76,6 @@ pub fn resolve(f: RegisterFile, x: Record) -> Sources
         rdi: f.value(RDI),
         rsi: f.value(RSI),
         implied: implied_place(f, x.digest.extra),
+        segment: segment_base(f, x.segment),
     }
 }

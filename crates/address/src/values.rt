@@ -1,8 +1,10 @@
 // Sums of what is known: unknown where one of the terms is.
+use crate::words::low_if;
 use crate::words::times;
+use record::Record;
 use registers::Value;
 ghost use mathlib.Core.Path.{_≡_};
-ghost use Rattle.address.specs.Places.{plusOf, sumOf, lowOf, scaledOf};
+ghost use Rattle.address.specs.Places.{plusOf, sumOf, lowOf, scaledOf, cutOf};
 
 // A value and a number.
 pub fn plus(v: Value, offset: u64) -> Value
@@ -39,6 +41,17 @@ pub fn scaled(v: Value, scale: u8) -> Value
 {
     match v {
         Value::Known(a) => Value::Known(times(a, scale)),
+        Value::Unknown => Value::Unknown,
+    }
+}
+
+// The address of an explicit operand, from its whole sum: cut where the record has the address-size bit.
+pub fn cut(x: Record, v: Value) -> Value
+    ensures { λ r. ⌜ r ≡ cutOf x v ⌝ }
+{
+    let short = x.address_size();
+    match v {
+        Value::Known(a) => Value::Known(low_if(short, a)),
         Value::Unknown => Value::Unknown,
     }
 }

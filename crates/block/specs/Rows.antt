@@ -5,7 +5,7 @@ use mathlib.Core.List.{List, [], _∷_, _++_}
 use lib.ListN.{drop, set, replicate}
 use Rattle.laws.specs.Lists.{flat}
 use Rattle.promises.specs.Bench.{P2, P2-file, P2-log}
-use Rattle.promises.specs.Rows.{Patch, recordWith, fileKnowing, put, opcode, count, specs, behavior, size, RegRRR, Disp, buffer}
+use Rattle.promises.specs.Rows.{Patch, recordWith, fileKnowing, put, opcode, count, specs, behavior, size, RegRRR, Disp, buffer, segment, everyday}
 use Rattle.block.specs.declared.blocks.Blocked.{Blocked}
 use Rattle.block.specs.Blocks.{blockCall}
 
@@ -55,6 +55,13 @@ sizeless = recordWith (specs (Disp ∷ []) ∷ size 0 ∷ [])
 abbrev pub badFile : List Patch
 badFile = put 4 (0x80 ∷ []) ∷ []
 
+-- one register operand, of this opcode and without a digest; what NOT logs of it
+abbrev not-rax : ℕ → List ℕ
+not-rax o = recordWith (opcode o ∷ specs (1 ∷ []) ∷ everyday ∷ [])
+
+abbrev NOT-log : List ℕ
+NOT-log = 1 ∷ 0 ∷ 0 ∷ 2 ∷ 0 ∷ 0 ∷ []
+
 unfoldable pub rows : List (Asked × Row)
 rows =
     -- the first 7 ends the call: it is answered with the bytes that it needs, and not counted; what is behind stays
@@ -72,6 +79,16 @@ rows =
     )
     -- a record of another kind than its length says is that record's own 1
     ∷ (block 40 (set ONE 0 0x11 ∷ ONE ∷ []) [] 3 0 8, said 0 2 3 ONE-log (1 ∷ 0 ∷ 0 ∷ 0 ∷ 0 ∷ 3 ∷ 0 ∷ 0 ∷ []))
+    -- records that name a segment: 41 bytes each, and of another kind than that their own 1
+    ∷ (
+      block 41 (recordWith (specs (18 ∷ []) ∷ segment 1 ∷ []) ∷ set (recordWith (segment 1 ∷ [])) 0 0x10 ∷ []) [] 8 0 8,
+      said 0 2 8 (1 ∷ 13 ∷ 0 ∷ 1 ∷ 0 ∷ 0 ∷ 5 ∷ 8 ∷ []) (0 ∷ 8 ∷ 0 ∷ 0 ∷ 1 ∷ 0 ∷ 0 ∷ 0 ∷ []),
+    )
+    -- records without a digest: 36 bytes each, NOT of a register and then an opcode that has none, whose 9 goes on like 2
+    ∷ (
+      block 36 (not-rax 115 ∷ not-rax 119 ∷ not-rax 115 ∷ []) [] 12 0 12,
+      said 0 3 12 (NOT-log ++ NOT-log) (0 ∷ 6 ∷ 0 ∷ 0 ∷ 9 ∷ 0 ∷ 0 ∷ 0 ∷ 0 ∷ 6 ∷ 0 ∷ 0 ∷ []),
+    )
     -- a start past the end: a refused record goes on, and the first accepted one gets 7, even with an empty log
     ∷ (
       block 40 (outside ∷ recordWith [] ∷ ONE ∷ []) [] 3 4 12,
@@ -84,6 +101,7 @@ rows =
     -- the whole call: 1 for the length of a record, of no bytes too, and for a part of a record; 2 for more than 1,000 records; 3 for a
     -- bad file; 7 for the answers' room; each before the next
     ∷ (block 39 [] badFile 3 0 0, said 1 0 0 (buffer 3) [])
+    ∷ (block 42 [] badFile 3 0 0, said 1 0 0 (buffer 3) [])
     ∷ (block 0 [] badFile 3 0 0, said 1 0 0 (buffer 3) [])
     ∷ (block 40 (replicate 40041 0 ∷ []) badFile 3 0 0, said 1 0 0 (buffer 3) [])
     ∷ (block 40 (replicate 40040 0 ∷ []) badFile 3 0 0, said 2 0 0 (buffer 3) [])

@@ -1,4 +1,4 @@
--- No log needs over 38 events or 177 bytes: one bound over what a register event and a memory event cost. It holds for every
+-- No log needs over mostEvents events or mostBytes bytes: one bound over what a register event and a memory event cost. It holds for every
 -- record, refused or not, and every file. Assumes nothing.
 use Prim.Native.Nat.{ℕ, _+_, _*_, _≤_, zero-le}
 use native.Mathlib.Omega.{arith}
@@ -30,7 +30,7 @@ use Rattle.record.specs.declared.Record.{Record}
 use Rattle.definition.specs.Limits.{mostEvents, mostBytes}
 use Rattle.definition.specs.Tables.{shapeOf, stringSpecs}
 use Rattle.definition.specs.Behaviors.{Operand, operandAt, operandsOf}
-use Rattle.definition.specs.Addresses.{termRegisters, registersOf, addressOf, baseOf, operandAddress}
+use Rattle.definition.specs.Addresses.{termRegisters, registersOf, addressOf, baseOf, operandAddress, segmentRegisters, basedOf, segmentOf}
 use Rattle.definition.specs.Steps.{Step, reads, writes, touches, registerStep, maskRegisters, maskFor, isLea, rflags, readPart, writePart, operandSteps, shapeBase, slotRegisters, implicitStep, entrySteps, flagSteps, stepsOf}
 use Rattle.definition.specs.Logs.{memoryEvent, stepEvents, eventsOf, eventBytes, bytesOf, stepBytes}
 use Rattle.definition.specs.declared.Address.{Address}
@@ -55,7 +55,7 @@ eventCost n m (UnknownWrite s) = m
 abbrev stepCost : ℕ → ℕ → Step → ℕ
 stepCost n m (reads y) = n
 stepCost n m (writes y) = n
-stepCost n m (touches w a k s) = weigh (λ y. n) (registersOf a) + (weigh (λ y. n) (maskRegisters k) + m)
+stepCost n m (touches w g a k s) = weigh (λ y. n) (segmentRegisters g) + (weigh (λ y. n) (registersOf a) + (weigh (λ y. n) (maskRegisters k) + m))
 
 abbrev operandCost : ℕ → ℕ → ImplicitOperand → ℕ
 operandCost n m (implied.Register y) = n
@@ -80,11 +80,15 @@ module _ (n m : ℕ) where
   unfolding stepEvents flat
   step-cost f (reads y) = omega arith
   step-cost f (writes y) = omega arith
-  step-cost f (touches w a k s) = simp (weigh-append, weigh-map, memory-cost w (addressOf f a) s) (omega arith)
+  step-cost f (touches w g a k s) = simp (weigh-append, weigh-map, memory-cost w (basedOf f g (addressOf f a)) s) (omega arith)
 
   mask-cost : (k : ℕ) → weigh (λ y. n) (maskRegisters k) ≤ n
   unfolding maskRegisters
   mask-cost k = simp weigh-cond (cond-le (eqb k 0) zero-le (omega arith))
+
+  segment-cost : (g : ℕ) → weigh (λ y. n) (segmentRegisters g) ≤ n
+  unfolding segmentRegisters
+  segment-cost g = simp weigh-cond (cond-le (eqb g 0) zero-le (omega arith))
 
   term-cost : (t : Term) → weigh (λ y. n) (termRegisters t) ≤ n
   unfolding termRegisters
@@ -97,7 +101,7 @@ module _ (n m : ℕ) where
   address-cost a =
       omega (arith, weigh-append (λ y. n) (termRegisters (a .base)) (termRegisters (a .index)), term-cost (a .base), term-cost (a .index))
 
-  read-cost : (x : Record) (s : Shape) → weigh (stepCost n m) (readPart x s) ≤ 3 * n + m
+  read-cost : (x : Record) (s : Shape) → weigh (stepCost n m) (readPart x s) ≤ 4 * n + m
   unfolding readPart
   read-cost x Nothing = zero-le
   read-cost x (Register i k) = simp weigh-map (omega (arith, mask-cost (maskFor x k)))
@@ -107,18 +111,18 @@ module _ (n m : ℕ) where
       simp (weigh-cond, weigh-append, weigh-map)
       (cond-le (isLea x)
       (omega (arith, address-cost (operandAddress x b i d), mask-cost (maskFor x k)))
-      (omega (arith, address-cost (operandAddress x b i d), mask-cost (maskFor x k))))
+      (omega (arith, segment-cost (segmentOf x b), address-cost (operandAddress x b i d), mask-cost (maskFor x k))))
 
-  write-cost : (x : Record) (s : Shape) → weigh (stepCost n m) (writePart x s) ≤ 3 * n + m
+  write-cost : (x : Record) (s : Shape) → weigh (stepCost n m) (writePart x s) ≤ 4 * n + m
   unfolding writePart
   write-cost x Nothing = zero-le
   write-cost x (Register i false) = omega arith
   write-cost x (Register i true) = simp (weigh-append, weigh-map) (omega (arith, mask-cost (x .mask)))
   write-cost x Fourth = omega arith
   write-cost x Immediate = zero-le
-  write-cost x (Memory b i d k) = omega (arith, address-cost (operandAddress x b i d), mask-cost (maskFor x k))
+  write-cost x (Memory b i d k) = omega (arith, segment-cost (segmentOf x b), address-cost (operandAddress x b i d), mask-cost (maskFor x k))
 
-  operand-cost : (x : Record) (o : Operand) → weigh (stepCost n m) (operandSteps x o) ≤ 2 * (3 * n + m)
+  operand-cost : (x : Record) (o : Operand) → weigh (stepCost n m) (operandSteps x o) ≤ 2 * (4 * n + m)
   unfolding operandSteps flat
   operand-cost x o =
       simp (weigh-append, weigh-cond)
@@ -128,13 +132,13 @@ module _ (n m : ℕ) where
         cond-le (writing (o .access)) (write-cost x (o .shape)) zero-le,
       ))
 
-  operands-cost : (x : Record) → weigh (stepCost n m) (each (operandSteps x) (operandsOf x)) ≤ 8 * (3 * n + m)
+  operands-cost : (x : Record) → weigh (stepCost n m) (each (operandSteps x) (operandsOf x)) ≤ 8 * (4 * n + m)
   unfolding operandsOf
   operands-cost x =
       omega (
         arith,
-        weigh-each (stepCost n m) (λ o. 2 * (3 * n + m)) (operandSteps x) (operand-cost x) (operandsOf x),
-        weigh-take (λ (o : Operand). 2 * (3 * n + m)) (x .count) (operandAt x 0 ∷ operandAt x 1 ∷ operandAt x 2 ∷ operandAt x 3 ∷ []),
+        weigh-each (stepCost n m) (λ o. 2 * (4 * n + m)) (operandSteps x) (operand-cost x) (operandsOf x),
+        weigh-take (λ (o : Operand). 2 * (4 * n + m)) (x .count) (operandAt x 0 ∷ operandAt x 1 ∷ operandAt x 2 ∷ operandAt x 3 ∷ []),
       )
 
   one-cost : (t : Bool) (s : Step) → stepCost n m s ≤ n → weigh (stepCost n m) (cond t (s ∷ []) []) ≤ n
@@ -157,7 +161,7 @@ module _ (n m : ℕ) where
   register-step-cost Write y = refl
 
   implied-cost : (size : ℕ) (w : Way) (o : ImplicitOperand) → stepCost n m (implicitStep size w o) ≤ operandCost n m o
-  unfolding implicitStep registersOf termRegisters maskRegisters
+  unfolding implicitStep segmentRegisters registersOf termRegisters maskRegisters
   implied-cost size w (implied.Register y) = simp register-step-cost (le-refl n)
   implied-cost size w (implied.MemDeref y) = omega arith
   implied-cost size w (implied.Disp y k) = omega arith
@@ -174,7 +178,7 @@ module _ (n m : ℕ) where
   unfolding implicitOf
   lists-cost k t l = light-at (entryCost n m) k implicits t l
 
-  steps-cost : (k : ℕ) → T (light (entryCost n m) k implicits) → (x : Record) → weigh (stepCost n m) (stepsOf x) ≤ k + 2 * n + 8 * (3 * n + m)
+  steps-cost : (k : ℕ) → T (light (entryCost n m) k implicits) → (x : Record) → weigh (stepCost n m) (stepsOf x) ≤ k + 2 * n + 8 * (4 * n + m)
   unfolding stepsOf flat
   steps-cost k t x =
       simp weigh-append
@@ -186,7 +190,7 @@ module _ (n m : ℕ) where
         operands-cost x,
       ))
 
-  events-cost : (k : ℕ) → T (light (entryCost n m) k implicits) → (f : RegisterFile) (x : Record) → weigh (eventCost n m) (eventsOf f (stepsOf x)) ≤ k + 2 * n + 8 * (3 * n + m)
+  events-cost : (k : ℕ) → T (light (entryCost n m) k implicits) → (f : RegisterFile) (x : Record) → weigh (eventCost n m) (eventsOf f (stepsOf x)) ≤ k + 2 * n + 8 * (4 * n + m)
   events-cost k t f x =
       omega (arith, steps-cost k t x, weigh-each (eventCost n m) (stepCost n m) (stepEvents f) (step-cost f) (stepsOf x))
 
@@ -211,7 +215,7 @@ length-weigh : (es : List Event) → length es ≡ weigh (λ e. 1) es
 length-weigh [] = refl
 length-weigh (e ∷ es) = omega (arith, length-weigh es)
 
--- 19 bytes of a list, 6 of flags, 19 of each part of four operands
+-- 19 bytes of a list, 6 of flags, 22 of each part of four operands
 pub log-bytes : (f : RegisterFile) (x : Record) → length (bytesOf (eventsOf f (stepsOf x))) ≤ mostBytes
 log-bytes f x =
     omega (
@@ -226,6 +230,6 @@ pub steps-fit : (f : RegisterFile) (x : Record) → size (stepBytes f) (stepsOf 
 unfolding size
 steps-fit f x = rw (steps-bytes f (stepsOf x)) (log-bytes f x)
 
--- 4 events of a list, 2 of flags, 4 of each part of four operands
+-- 4 events of a list, 2 of flags, 5 of each part of four operands
 pub log-events : (f : RegisterFile) (x : Record) → length (eventsOf f (stepsOf x)) ≤ mostEvents
 log-events f x = omega (arith, length-weigh (eventsOf f (stepsOf x)), weigh-le one-event (eventsOf f (stepsOf x)), events-cost 1 1 4 tt f x)

@@ -1,5 +1,6 @@
 pub mod Weights
 pub mod Events
+pub mod CutLast
 pub mod Bounds
 pub mod ListingBound
 pub mod Outcomes

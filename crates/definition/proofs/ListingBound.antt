@@ -1,4 +1,4 @@
--- No listing needs over 34 bytes, whatever the record. Assumes nothing.
+-- No listing needs over mostListed bytes, whatever the record. Assumes nothing.
 use Prim.Native.Nat.{ℕ, _≤_, zero-le}
 use native.Mathlib.Omega.{arith}
 use mathlib.Core.List.{[], _∷_}

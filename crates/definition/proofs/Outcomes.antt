@@ -13,7 +13,8 @@ use Rattle.laws.specs.Lending.{Logged, lacksRoom}
 use Rattle.laws.proofs.Choice.{first-later}
 use Rattle.laws.proofs.Every.{Every}
 use Rattle.laws.proofs.Lending.{part, back, spliced, part-length}
-use Rattle.record.specs.Records.{isRecord, recordOf, outside, recordRefusal}
+use Rattle.everyday.specs.Rows.{unlisted}
+use Rattle.record.specs.Records.{isRecord, recordOf, outside, lacksDigest, recordTests, recordRefusal}
 use Rattle.record.proofs.Laws.{passed}
 use Rattle.definition.specs.Refusals.{noRoom}
 use Rattle.definition.specs.Visits.{outcome}
@@ -30,16 +31,14 @@ pub first-back : (ts us : List (Bool × ℕ)) → Every (λ t. t .0 ≡ false) t
 first-back [] us h = refl
 first-back (t ∷ ts) us h = first-later (t .0) (t .1) (ts ++ us) (h .0) ∙ first-back ts us (h .1)
 
--- Refusals 1 and 2 stand first in the table of every call on a record: they refuse, or the others decide
+-- The tests of a record's bytes stand first in the table of every call on a record: they refuse, or the others decide
 module _ (b : List ℕ) (us : List (Bool × ℕ)) where
-  pub by-record : (recordRefusal b ≡ 0 → ⊥) → firstOf ((not (isRecord b), 1) ∷ (outside (recordOf b), 2) ∷ us) ≡ recordRefusal b
+  pub by-record : (recordRefusal b ≡ 0 → ⊥) → firstOf (recordTests b ++ us) ≡ recordRefusal b
   unfolding recordRefusal
-  by-record ne = first-front ((not (isRecord b), 1) ∷ (outside (recordOf b), 2) ∷ []) us refl ne
+  by-record ne = first-front (recordTests b) us refl ne
 
-  pub past-record : recordRefusal b ≡ 0 → firstOf ((not (isRecord b), 1) ∷ (outside (recordOf b), 2) ∷ us) ≡ firstOf us
-  past-record e =
-      let p = passed b e in
-      first-back ((not (isRecord b), 1) ∷ (outside (recordOf b), 2) ∷ []) us (rw (p .is) refl, (p .in-tables, tt))
+  pub past-record : recordRefusal b ≡ 0 → firstOf (recordTests b ++ us) ≡ firstOf us
+  past-record e = let p = passed b e in first-back (recordTests b) us (rw (p .is) refl, (p .in-tables, (p .digested, tt)))
 
 -- a number whose answer carries nothing but itself
 abbrev pub Bare : ℕ → Type 0
@@ -48,12 +47,13 @@ Bare k = (k ≡ 0 → ⊥) × (k ≡ 4 → ⊥) × (k ≡ 7 → ⊥)
 -- the refusal that a record's bytes give is one
 pub bare-record : (b : List ℕ) → (recordRefusal b ≡ 0 → ⊥) → Bare (recordRefusal b)
 unfolding recordRefusal firstOf
-bare-record b ne = by (not (isRecord b)) (outside (recordOf b)) ne
+bare-record b ne = by (not (isRecord b)) (outside (recordOf b)) (lacksDigest b) ne
   where
-    by : (s t : Bool) → (cond {A = ℕ} s 1 (cond t 2 0) ≡ 0 → ⊥) → Bare (cond s 1 (cond t 2 0))
-    by true t ne = (ne, (λ e. omega arith), (λ e. omega arith))
-    by false true ne = (ne, (λ e. omega arith), (λ e. omega arith))
-    by false false ne = (ne, (λ e. omega arith), (λ e. omega arith))
+    by : (s t u : Bool) → (cond {A = ℕ} s 1 (cond t 2 (cond u unlisted 0)) ≡ 0 → ⊥) → Bare (cond s 1 (cond t 2 (cond u unlisted 0)))
+    by true t u ne = (ne, (λ e. omega arith), (λ e. omega arith))
+    by false true u ne = (ne, (λ e. omega arith), (λ e. omega arith))
+    by false false true ne = (ne, (λ e. omega arith), (λ e. omega arith))
+    by false false false ne = (ne, (λ e. omega arith), (λ e. omega arith))
 
 -- What a refusal number gives
 module _ (opcode : ℕ) (bytes buffer : List ℕ) (start : ℕ) where

@@ -95,6 +95,7 @@ fixedUp x =
       prefixes = x .prefixes;
       mask = x .mask;
       digest = digestOf x;
+      segment = x .segment;
     }
 
 -- bit 5, but for BT, BTS, BTR, BTC only where spec 0 is not RegMMM

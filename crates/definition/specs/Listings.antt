@@ -71,7 +71,7 @@ itemBytes (Explicit i s a) = 0x46 ∷ i ∷ s ∷ accessNumber a ∷ []
 abbrev pub listingOf : Record → List ℕ
 listingOf x = each itemBytes (itemsOf x)
 
--- refusals 1, 2, 4 and 7
+-- refusals 1, 2, 9, 4 and 7
 unfoldable pub listingRefusal : List ℕ → List ℕ → ℕ → ℕ
 listingRefusal b buffer start =
     firstOf

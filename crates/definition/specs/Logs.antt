@@ -9,7 +9,7 @@ use Rattle.registers.specs.declared.Value.{Value}
 use Rattle.registers.specs.declared.Value.the-variants.{Known, Unknown}
 use Rattle.implicit.specs.declared.Way.{Way}
 use Rattle.implicit.specs.declared.Way.the-variants.{Read, Write}
-use Rattle.definition.specs.Addresses.{registersOf, addressOf}
+use Rattle.definition.specs.Addresses.{registersOf, addressOf, segmentRegisters, basedOf}
 use Rattle.definition.specs.Steps.{maskRegisters, Step, reads, writes, touches}
 use Rattle.definition.specs.declared.Event.{Event}
 use Rattle.definition.specs.declared.Event.the-variants.{RegisterRead, RegisterWrite, MemoryRead, MemoryWrite, UnknownRead, UnknownWrite}
@@ -20,15 +20,16 @@ memoryEvent Read Unknown n = UnknownRead n
 memoryEvent Write (Known a) n = MemoryWrite a n
 memoryEvent Write Unknown n = UnknownWrite n
 
--- all registers of an address are logged, whether they are known or not
+-- all registers of an address and its base are logged, whether they are known or not
 unfoldable pub stepEvents : RegisterFile → Step → List Event
 stepEvents f (reads y) = RegisterRead y ∷ []
 stepEvents f (writes y) = RegisterWrite y ∷ []
-stepEvents f (touches w a m n) =
+stepEvents f (touches w s a m n) =
     flat
-    (map RegisterRead (registersOf a)
+    (map RegisterRead (segmentRegisters s)
+    ∷ map RegisterRead (registersOf a)
     ∷ map RegisterRead (maskRegisters m)
-    ∷ (memoryEvent w (addressOf f a) n ∷ [])
+    ∷ (memoryEvent w (basedOf f s (addressOf f a)) n ∷ [])
     ∷ [])
 
 abbrev pub eventsOf : RegisterFile → List Step → List Event

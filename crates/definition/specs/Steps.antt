@@ -21,7 +21,7 @@ use Rattle.record.specs.Records.{specAt, regAt}
 use Rattle.record.specs.declared.Record.{Record}
 use Rattle.definition.specs.Tables.{shapeOf, stringSpecs}
 use Rattle.definition.specs.Behaviors.{Operand, operandsOf}
-use Rattle.definition.specs.Addresses.{signed32, termRegisters, registersOf, baseOf, operandAddress}
+use Rattle.definition.specs.Addresses.{signed32, termRegisters, registersOf, baseOf, operandAddress, segmentOf}
 use Rattle.definition.specs.declared.Base.{Base}
 use Rattle.definition.specs.declared.Base.the-variants.{NoBase}
 use Rattle.definition.specs.declared.Shape.{Shape}
@@ -32,8 +32,9 @@ use Rattle.definition.specs.declared.Address.{Address}
 pub data Step : Type 0 where
   reads : RegSpec → Step
   writes : RegSpec → Step
-  -- the address's registers are read, then the mask by its number, then so many bytes of memory are touched
-  touches : Way → Address → ℕ → ℕ → Step
+  -- the base of a segment by its number is read, then the address's registers, then the mask by its number; then so many bytes of
+  -- memory are touched
+  touches : Way → ℕ → Address → ℕ → ℕ → Step
 
 abbrev pub registerStep : Way → RegSpec → Step
 registerStep Read y = reads y
@@ -62,6 +63,7 @@ unfoldable pub widened : RegSpec → RegSpec
 widened y = cond (eqb (y .bank) 1) (reg 0 (y .number)) y
 
 -- Explicit operands
+-- LEA's read part touches no memory, and asks for no segment
 unfoldable pub readPart : Record → Shape → List Step
 readPart x Nothing = []
 readPart x (Register i m) = reads (regAt x i) ∷ maskSteps (maskFor x m)
@@ -70,7 +72,7 @@ readPart x Immediate = []
 readPart x (Memory b i d m) =
     cond (isLea x)
     (map reads (registersOf (operandAddress x b i d)) ++ maskSteps (maskFor x m))
-    (touches Read (operandAddress x b i d) (maskFor x m) (x .size) ∷ [])
+    (touches Read (segmentOf x b) (operandAddress x b i d) (maskFor x m) (x .size) ∷ [])
 
 unfoldable pub writePart : Record → Shape → List Step
 writePart x Nothing = []
@@ -78,7 +80,7 @@ writePart x (Register i false) = writes (widened (regAt x i)) ∷ []
 writePart x (Register i true) = maskSteps (x .mask) ++ (writes (regAt x i) ∷ [])
 writePart x Fourth = writes (widened (fourthOf x)) ∷ []
 writePart x Immediate = []
-writePart x (Memory b i d m) = touches Write (operandAddress x b i d) (maskFor x m) (x .size) ∷ []
+writePart x (Memory b i d m) = touches Write (segmentOf x b) (operandAddress x b i d) (maskFor x m) (x .size) ∷ []
 
 -- its read part, then its write part
 unfoldable pub operandSteps : Record → Operand → List Step
@@ -100,11 +102,12 @@ shapeBase (Memory b i d m) = b
 unfoldable pub slotRegisters : Record → ℕ → List RegSpec
 slotRegisters x i = cond (isIn (specAt x i) stringSpecs) (termRegisters (baseOf x (shapeBase (shapeOf (specAt x i))))) []
 
+-- what a list touches lies in no segment and is never cut
 unfoldable pub implicitStep : ℕ → Way → ImplicitOperand → Step
 implicitStep size w (implied.Register y) = registerStep w y
-implicitStep size w (implied.MemDeref y) = touches w (record { base = Plain y; index = Absent; offset = 0 }) 0 size
-implicitStep size w (implied.Disp y n) = touches w (record { base = Plain y; index = Absent; offset = signed32 n }) 0 size
-implicitStep size w (implied.MemBaseIndexScale y z k) = touches w (record { base = Plain y; index = Scaled z k; offset = 0 }) 0 size
+implicitStep size w (implied.MemDeref y) = touches w 0 (record { base = Plain y; index = Absent; offset = 0; cut = false }) 0 size
+implicitStep size w (implied.Disp y n) = touches w 0 (record { base = Plain y; index = Absent; offset = signed32 n; cut = false }) 0 size
+implicitStep size w (implied.MemBaseIndexScale y z k) = touches w 0 (record { base = Plain y; index = Scaled z k; offset = 0; cut = false }) 0 size
 
 -- a string slot logs its register and no memory
 unfoldable pub entrySteps : Record → Entry → List Step

@@ -5,7 +5,7 @@ use mathlib.Core.Bool.{Bool, true, false}
 use lib.ListN.{getD}
 use Rattle.implicit.specs.Lists.{rdi, rsi, edi, esi}
 use Rattle.definition.specs.declared.Base.{Base}
-use Rattle.definition.specs.declared.Base.the-variants.{NoBase, Based, Named}
+use Rattle.definition.specs.declared.Base.the-variants.{NoBase, Based, Named, Destination}
 use Rattle.definition.specs.declared.Displacement.{Displacement}
 use Rattle.definition.specs.declared.Displacement.the-variants.{NoDisp, Disp32, DispU64, DispU32}
 use Rattle.definition.specs.declared.Shape.{Shape}
@@ -36,8 +36,8 @@ shapes =
     -- Deref, Deref_mask
     ∷ Memory Based no-index NoDisp plain ∷ Memory Based no-index NoDisp masked
     -- Deref_rdi, Deref_rsi, Deref_edi, Deref_esi
-    ∷ Memory (Named rdi) no-index NoDisp plain ∷ Memory (Named rsi) no-index NoDisp plain
-    ∷ Memory (Named edi) no-index NoDisp plain ∷ Memory (Named esi) no-index NoDisp plain
+    ∷ Memory (Destination rdi) no-index NoDisp plain ∷ Memory (Named rsi) no-index NoDisp plain
+    ∷ Memory (Destination edi) no-index NoDisp plain ∷ Memory (Named esi) no-index NoDisp plain
     -- Disp, MemIndexScale, MemIndexScaleDisp, MemBaseIndexScale, MemBaseIndexScaleDisp, each with its _mask form
     ∷ Memory Based no-index Disp32 plain ∷ Memory Based no-index Disp32 masked
     ∷ Memory NoBase index NoDisp plain ∷ Memory NoBase index NoDisp masked

@@ -13,11 +13,13 @@ pub enum Shape {
     Memory(Base, bool, Displacement, bool),
 }
 
-// The base of a memory spec: none, `regs[1]`, or a register that the spec names.
+// The base of a memory spec: none, `regs[1]`, or a register that the spec names, as a place or as the destination of a string
+// instruction, to which no segment applies.
 pub enum Base {
     NoBase,
     Based,
     Named(RegSpec),
+    Destination(RegSpec),
 }
 
 // The displacement of a memory spec: none, the low 32 bits sign-extended, the whole, the low 32 bits zero-extended.
@@ -35,11 +37,12 @@ pub enum Term {
     Scaled(RegSpec, u8),
 }
 
-// An address before any register is asked for its value.
+// An address before any register is asked for its value, and whether the sum is cut to its low 32 bits.
 pub struct Address {
     pub base: Term,
     pub index: Term,
     pub offset: u64,
+    pub cut: bool,
 }
 
 // An event of a log. The last number of a memory event is its size.

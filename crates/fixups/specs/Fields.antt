@@ -20,4 +20,5 @@ fieldsOf opcode count spec bank size prefixes d =
       prefixes = prefixes;
       mask = 0;
       digest = d;
+      segment = 0;
     }

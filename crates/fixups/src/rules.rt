@@ -265,6 +265,7 @@ pub fn fix_fields(
         prefixes: prefixes,
         mask: 0,
         digest: d,
+        segment: 0,
     };
     fix_up(x)
 }

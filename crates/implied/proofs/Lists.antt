@@ -14,7 +14,7 @@ use Rattle.implicit.specs.Lists.{implicits, implicitOf}
 use Rattle.implicit.specs.declared.Way.the-variants.{Read, Write}
 use Rattle.implicit.specs.declared.Entry.the-variants.{Slot}
 use Rattle.record.specs.declared.Record.{Record}
-use Rattle.definition.specs.Addresses.{termRegisters, registersOf}
+use Rattle.definition.specs.Addresses.{termRegisters, registersOf, segmentRegisters, basedOf}
 use Rattle.definition.specs.Steps.{registerStep, maskRegisters, slotRegisters, implicitStep, entrySteps}
 use Rattle.definition.specs.Logs.{stepEvents, eventsOf}
 use Rattle.address.specs.Places.{operandPlace, entryPlace, listPlace, impliedPlace}
@@ -40,7 +40,7 @@ module _ (f : RegisterFile) (x : Record) where
   Listed l = eventsOf f (each (entrySteps x) (implicitOf l)) ≡ listEvents x (impliedPlace f l) l
 
   each-list : all Listed 0 29
-  unfolding implicitOf listEvents impliedPlace listPlace entryPlace operandPlace entrySteps implicitStep each stepEvents flat registersOf termRegisters maskRegisters
+  unfolding implicitOf listEvents impliedPlace listPlace entryPlace operandPlace entrySteps implicitStep each stepEvents flat registersOf termRegisters segmentRegisters basedOf maskRegisters
   each-list = (
     refl,
     (

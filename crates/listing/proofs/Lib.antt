@@ -1,4 +1,3 @@
 pub mod Writing
 pub mod Walking
 pub mod Calls
-pub mod Narrow

@@ -12,6 +12,7 @@ use Rattle.block.specs.Bits.{inBits}
 use Rattle.block.specs.Blocks.{blockCall}
 use Rattle.session.specs.Sessions.{appended}
 use Rattle.session.specs.Words.{sessionIn, inWords, emptyWords}
+use Rattle.totals.specs.Sheets as sheet
 use Rattle.watching.specs.Traces.{newOf, stepOf}
 use Rattle.watching.specs.Verdicts.{variable, nameAt}
 use Rattle.answers.specs.Answers.{packed, digestBits, privilegeBits, exceptionBits, eventBits, differenceBits}
@@ -37,3 +38,5 @@ EveryExportDetermined =
     × OneOutcome (inWords (appended b f (sessionIn words, p)))
     × OneOutcome emptyWords
     × OneOutcome (inBits (blockCall length b f p s words))
+    × OneOutcome (sheet.newOf words address length)
+    × OneOutcome (sheet.addOf words p)

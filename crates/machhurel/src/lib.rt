@@ -2,6 +2,7 @@
 mod blocks; // blocks.rt: the call on a block of records
 mod calls; // calls.rt: the calls on a record and on a log, exported as C
 mod sessions; // sessions.rt: the calls on a log session, whose words a C caller keeps
+mod sheets; // sheets.rt: the calls on a sheet, whose words a C caller keeps
 mod watches; // watches.rt: the calls on a watch, whose words a C caller keeps
 
 pub use blocks::machhurel_block;
@@ -14,6 +15,8 @@ pub use calls::machhurel_privilege;
 pub use calls::machhurel_visit;
 pub use sessions::machhurel_append;
 pub use sessions::machhurel_reset;
+pub use sheets::machhurel_sheet_add;
+pub use sheets::machhurel_sheet_new;
 pub use watches::machhurel_verdict;
 pub use watches::machhurel_watch_new;
 pub use watches::machhurel_watch_step;

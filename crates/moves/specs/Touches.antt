@@ -13,6 +13,7 @@ use Rattle.definition.specs.Steps.{maskRegisters, isLea, widened}
 use Rattle.definition.specs.Logs.{memoryEvent}
 use Rattle.definition.specs.declared.Event.{Event}
 use Rattle.definition.specs.declared.Event.the-variants.{RegisterRead, RegisterWrite}
+use Rattle.address.specs.Places.{sumOf, cutOf}
 use Rattle.event.specs.Moves.{moved}
 
 -- a register: a write is widened
@@ -30,14 +31,14 @@ abbrev pub stops : Record → Way → Bool
 stops x Read = isLea x
 stops x Write = false
 
--- the access itself
-unfoldable pub accessEvents : Record → Way → Value → List Event
-accessEvents x w v = cond (stops x w) [] (memoryEvent w v (x .size) ∷ [])
+-- the access itself, by the whole sum v and what the base of its segment adds
+unfoldable pub accessEvents : Record → Way → Value → Value → List Event
+accessEvents x w v g = cond (stops x w) [] (memoryEvent w (sumOf g (cutOf x v)) (x .size) ∷ [])
 
 -- one register of an address, the mask, the access
-unfoldable pub derefEvents : Record → Way → RegSpec → ℕ → Value → List Event
-derefEvents x w y m v = flat ((RegisterRead y ∷ []) ∷ moved Read (maskRegisters m) ∷ accessEvents x w v ∷ [])
+unfoldable pub derefEvents : Record → Way → RegSpec → ℕ → Value → Value → List Event
+derefEvents x w y m v g = flat ((RegisterRead y ∷ []) ∷ moved Read (maskRegisters m) ∷ accessEvents x w v g ∷ [])
 
 -- base and index
-unfoldable pub indexedEvents : Record → Way → ℕ → Value → List Event
-indexedEvents x w m v = flat ((RegisterRead (regAt x 1) ∷ []) ∷ derefEvents x w (regAt x 2) m v ∷ [])
+unfoldable pub indexedEvents : Record → Way → ℕ → Value → Value → List Event
+indexedEvents x w m v g = flat ((RegisterRead (regAt x 1) ∷ []) ∷ derefEvents x w (regAt x 2) m v g ∷ [])

@@ -1,5 +1,7 @@
 // Memory that an explicit operand touches: the registers of the address, the mask, then the access.
 use crate::registers_of::put_mask;
+use address::cut;
+use address::sum;
 use event::put_memory;
 use event::put_register;
 use implicit::Way;
@@ -16,7 +18,7 @@ ghost use Rattle.moves.specs.Touches.{stops, accessEvents, derefEvents, 
 const LEA: u16 = 28;
 
 // Under LEA a read part stops before the access; a write part does not.
-fn is_stopped(x: Record, way: Way) -> bool
+pub fn is_stopped(x: Record, way: Way) -> bool
     ensures { λ r. ⌜ r ≡ stops x way ⌝ }
 {
     match way {
@@ -25,32 +27,40 @@ fn is_stopped(x: Record, way: Way) -> bool
     }
 }
 
-// The access itself: the address of every explicit operand comes here last.
-pub fn put_access(log: &mut [u8], x: Record, way: Way, at: Value) -> usize
-    requires { ⌜ size eventBytes (accessEvents x way at) ≤ length (now log) ⌝ }
-    ensures { λ r. ⌜ Logged eventBytes (accessEvents x way at) (now (log .entry)) (now (log .exit)) r ⌝ }
+// The access itself: the sum of every explicit operand comes here last, is cut here, and moved by the base of its segment.
+pub fn put_access(log: &mut [u8], x: Record, way: Way, at: Value, added: Value) -> usize
+    requires { ⌜ size eventBytes (accessEvents x way at added) ≤ length (now log) ⌝ }
+    ensures { λ r. ⌜ Logged eventBytes (accessEvents x way at added) (now (log .entry)) (now (log .exit)) r ⌝ }
 {
     if is_stopped(x, way) {
         return 0;
     }
-    put_memory(log, way, at, x.size)
+    put_memory(log, way, sum(added, cut(x, at)), x.size)
 }
 
 // The one register of an address.
-pub fn put_deref(log: &mut [u8], x: Record, way: Way, y: RegSpec, mask: u8, at: Value) -> usize
-    requires { ⌜ size eventBytes (derefEvents x way y mask at) ≤ length (now log) ⌝ }
-    ensures { λ r. ⌜ Logged eventBytes (derefEvents x way y mask at) (now (log .entry)) (now (log .exit)) r ⌝ }
+pub fn put_deref(
+    log: &mut [u8],
+    x: Record,
+    way: Way,
+    y: RegSpec,
+    mask: u8,
+    at: Value,
+    added: Value,
+) -> usize
+    requires { ⌜ size eventBytes (derefEvents x way y mask at added) ≤ length (now log) ⌝ }
+    ensures { λ r. ⌜ Logged eventBytes (derefEvents x way y mask at added) (now (log .entry)) (now (log .exit)) r ⌝ }
 {
     let m = put_register(log, Way::Read, y);
     let n = m + put_mask(&mut log[m..], mask);
-    n + put_access(&mut log[n..], x, way, at)
+    n + put_access(&mut log[n..], x, way, at, added)
 }
 
 // Base and index.
-pub fn put_indexed(log: &mut [u8], x: Record, way: Way, mask: u8, at: Value) -> usize
-    requires { ⌜ size eventBytes (indexedEvents x way mask at) ≤ length (now log) ⌝ }
-    ensures { λ r. ⌜ Logged eventBytes (indexedEvents x way mask at) (now (log .entry)) (now (log .exit)) r ⌝ }
+pub fn put_indexed(log: &mut [u8], x: Record, way: Way, mask: u8, at: Value, added: Value) -> usize
+    requires { ⌜ size eventBytes (indexedEvents x way mask at added) ≤ length (now log) ⌝ }
+    ensures { λ r. ⌜ Logged eventBytes (indexedEvents x way mask at added) (now (log .entry)) (now (log .exit)) r ⌝ }
 {
     let n = put_register(log, Way::Read, x.regs[1]);
-    n + put_deref(&mut log[n..], x, way, x.regs[2], mask, at)
+    n + put_deref(&mut log[n..], x, way, x.regs[2], mask, at, added)
 }

@@ -2,6 +2,8 @@
 use event::put_register;
 use implicit::Way;
 use record::Record;
+use registers::FS;
+use registers::GS;
 use registers::RegSpec;
 ghost use mathlib.Core.Path.{_≡_};
 ghost use Prim.Native.Nat.{_≤_};
@@ -9,6 +11,7 @@ ghost use lib.ListN.{length};
 ghost use Rattle.laws.specs.Lending.{size, Logged};
 ghost use Rattle.implicit.specs.declared.Way.the-variants.{Read, Write};
 ghost use Rattle.definition.specs.Steps.{widened, fourthOf, maskRegisters};
+ghost use Rattle.definition.specs.Addresses.{segmentRegister, segmentRegisters};
 ghost use Rattle.definition.specs.Logs.{eventBytes};
 ghost use Rattle.event.specs.Moves.{moved};
 ghost use Rattle.moves.specs.Touches.{plainEvents, maskedEvents};
@@ -53,6 +56,24 @@ pub fn put_mask(log: &mut [u8], mask: u8) -> usize
             number: mask,
         },
     )
+}
+
+// The base of fs for segment 1, else that of gs.
+fn segment_register(segment: u8) -> RegSpec
+    ensures { λ r. ⌜ r ≡ segmentRegister segment ⌝ }
+{
+    if segment == 1 { FS } else { GS }
+}
+
+// The base of no segment is never logged.
+pub fn put_segment(log: &mut [u8], segment: u8) -> usize
+    requires { ⌜ size eventBytes (moved Read (segmentRegisters segment)) ≤ length (now log) ⌝ }
+    ensures { λ r. ⌜ Logged eventBytes (moved Read (segmentRegisters segment)) (now (log .entry)) (now (log .exit)) r ⌝ }
+{
+    if segment == 0 {
+        return 0;
+    }
+    put_register(log, Way::Read, segment_register(segment))
 }
 
 pub fn put_plain(log: &mut [u8], way: Way, y: RegSpec) -> usize

@@ -8,6 +8,7 @@ use lib.ListN.{length}
 use lib.Dec.{eqb}
 use Rattle.registers.specs.declared.RegisterFile.{RegisterFile}
 use Rattle.record.specs.Records.{recordOf}
+use Rattle.definition.specs.Limits.{mostBytes}
 use Rattle.definition.specs.Steps.{stepsOf}
 use Rattle.definition.specs.Visits.{fixedRecord, logOf, refusalOf, outcome, visitBy}
 use Rattle.definition.specs.declared.Answer.the-variants.{Refused, Complex}
@@ -27,11 +28,11 @@ logs-agree b f g h = steps-agree f g (stepsOf (fixedRecord b)) h
 
 module _ (bad : Bool) (b : List ℕ) (f g : RegisterFile) (p q : List ℕ) (s t : ℕ) where
   -- with room, the refusal is the record's and the file's alone
-  refuse-alike : s + 177 ≤ length p → t + 177 ≤ length q → refusalOf bad b f p s ≡ refusalOf bad b g q t
+  refuse-alike : s + mostBytes ≤ length p → t + mostBytes ≤ length q → refusalOf bad b f p s ≡ refusalOf bad b g q t
   unfolding refusalOf
   refuse-alike hp hq = rw (room-enough b f p s hp, room-enough b g q t hq)
 
-  pub by-refines : Extends f g → s + 177 ≤ length p → t + 177 ≤ length q → Alike (visitBy bad b f p s) (visitBy bad b g q t) p q s t (logOf b f) (logOf b g)
+  pub by-refines : Extends f g → s + mostBytes ≤ length p → t + mostBytes ≤ length q → Alike (visitBy bad b f p s) (visitBy bad b g q t) p q s t (logOf b f) (logOf b g)
   unfolding visitBy outcome
   by-refines more hp hq = go (refusalOf bad b g q t) refl
     where

@@ -2,19 +2,21 @@
 use Prim.Native.Nat.{ℕ, zero, suc, _+_, _^_, _/_, _%_, _<_, _≤_}
 use native.Mathlib.Omega.{arith}
 use native.Mathlib.Nat.{mod-lt}
-use borrow.Author.Tests.{ltb-false, eqb-true, eqb-false, le-leb, lt-ltb, not-true, not-false}
+use borrow.Author.Tests.{ltb-true, ltb-false, eqb-true, eqb-false, le-leb, lt-ltb, not-true, not-false}
 use mathlib.Core.Path.{_≡_, refl, sym, _∙_}
 use mathlib.Core.List.{List, [], _∷_, _++_, map}
 use mathlib.Core.Bool.{Bool, true, false, not, cond, _&&_, _||_}
-use lib.Dec.{eqb, lit<, eqb·suc-zero}
+use lib.ListN.{getD}
+use Rattle.registers.proofs.Segments.{logged-but}
+use lib.Dec.{eqb, ltb, lit<, eqb·suc-zero}
 use Rattle.laws.specs.Words.{bit}
 use Rattle.laws.specs.Tests.{any, isIn}
 use Rattle.laws.specs.Lists.{each, flat}
 use Rattle.laws.proofs.Choice.{or-left, or-right, and-left, and-right}
 use Rattle.laws.proofs.Every.{Every, every-append, every-take, every-at, every-cond, every-unless, every-if, every-weaken, any-false, every-map, every-each, at}
 use Rattle.access.specs.Accesses.{reading, writing}
-use Rattle.registers.specs.Banks.{reg, isRegister, isLogged}
-use Rattle.registers.specs.Files.{after}
+use Rattle.registers.specs.Banks.{reg, loggedNumbers, fs, gs, isRegister, isLogged}
+use Rattle.registers.specs.Files.{after, valueOf}
 use Rattle.registers.specs.declared.RegSpec.{RegSpec}
 use Rattle.registers.specs.declared.RegisterFile.{RegisterFile}
 use Rattle.registers.specs.declared.Value.{Value}
@@ -31,14 +33,14 @@ use Rattle.record.specs.Records.{outside, specAt, regAt}
 use Rattle.record.specs.declared.Record.{Record}
 use Rattle.definition.specs.Tables.{shapes, shapeOf, stringSpecs}
 use Rattle.definition.specs.Behaviors.{fixedUp, Operand, operandAt, operandsOf, isMemory}
-use Rattle.definition.specs.Addresses.{termRegisters, registersOf, termOf, placeOf, addressOf, baseOf, indexOf, operandAddress}
+use Rattle.definition.specs.Addresses.{termRegisters, registersOf, termOf, lowIf, placeOf, addressOf, baseOf, indexOf, operandAddress, segmentRegister, segmentRegisters, basedOn, basedOf, segmentOf}
 use Rattle.definition.specs.Steps.{Step, reads, writes, touches, registerStep, maskRegisters, maskFor, maskSteps, isLea, fourthOf, widened, readPart, writePart, operandSteps, shapeBase, slotRegisters, implicitStep, entrySteps, rflags, flagSteps, stepsOf}
 use Rattle.definition.specs.Logs.{memoryEvent, stepEvents, eventsOf}
 use Rattle.definition.specs.Refusals.{accessed, unnamed, nameless, sizeless}
 use Rattle.definition.specs.Readings.{isEvent, isSize}
 use Rattle.definition.specs.declared.Address.{Address}
 use Rattle.definition.specs.declared.Base.{Base}
-use Rattle.definition.specs.declared.Base.the-variants.{NoBase, Based, Named}
+use Rattle.definition.specs.declared.Base.the-variants.{NoBase, Based, Named, Destination}
 use Rattle.definition.specs.declared.Displacement.{Displacement}
 use Rattle.definition.specs.declared.Shape.{Shape}
 use Rattle.definition.specs.declared.Shape.the-variants.{Nothing, Register, Fourth, Immediate, Memory}
@@ -55,12 +57,16 @@ Good y = isLogged (y .bank) (y .number) ≡ true
 abbrev GoodStep : Step → Type 0
 GoodStep (reads y) = Good y
 GoodStep (writes y) = Good y
-GoodStep (touches w a m n) = Every Good (registersOf a) × Every Good (maskRegisters m) × (isSize n ≡ true)
+GoodStep (touches w s a m n) = Every Good (segmentRegisters s) × Every Good (registersOf a) × Every Good (maskRegisters m) × (isSize n ≡ true)
 
 -- what a record may name a log may name
 may-log : (b n : ℕ) → isRegister b n ≡ true → isLogged b n ≡ true
 unfolding isRegister isLogged
-may-log b n h = h
+may-log b n h = by (eqb b 13) refl
+  where
+    by : (t : Bool) → eqb b 13 ≡ t → ltb n (getD loggedNumbers b 0) ≡ true
+    by true e = absurd (omega (arith, ltb-true n 0 (rw (eqb-true b 13 e) at h)))
+    by false e = rw (logged-but b (eqb-false b 13 e)) h
 
 -- Steps and events: an address is below two to the 64
 abbrev Small : Value → Type 0
@@ -71,9 +77,21 @@ after-small : (v : Value) (k : ℕ → Value) → ((n : ℕ) → Small (k n)) �
 after-small (Known v) k h = h v
 after-small Unknown k h = tt
 
+low-small : (c : Bool) (n : ℕ) → n < 2 ^ 64 → lowIf c n < 2 ^ 64
+low-small true n h = omega arith
+low-small false n h = h
+
 address-small : (f : RegisterFile) (a : Address) → Small (addressOf f a)
 unfolding addressOf placeOf
-address-small f a = after-small (termOf f (a .base)) _ (λ u. after-small (termOf f (a .index)) _ (λ v. mod-lt _ (lit< tt)))
+address-small f a = after-small (termOf f (a .base)) _ (λ u. after-small (termOf f (a .index)) _ (λ v. low-small (a .cut) _ (mod-lt _ (lit< tt))))
+
+based-small : (f : RegisterFile) (s : ℕ) (v : Value) → Small v → Small (basedOf f s v)
+unfolding basedOf
+based-small f s v h = by (eqb s 0)
+  where
+    by : (t : Bool) → Small (cond t v (basedOn (valueOf f (segmentRegister s)) v))
+    by true = h
+    by false = after-small (valueOf f (segmentRegister s)) _ (λ u. after-small v _ (λ a. mod-lt _ (lit< tt)))
 
 memory-good : (w : Way) (v : Value) (n : ℕ) → Small v → isSize n ≡ true → GoodEvent (memoryEvent w v n)
 unfolding isEvent memoryEvent
@@ -91,10 +109,11 @@ step-good : (f : RegisterFile) (s : Step) → GoodStep s → Every GoodEvent (st
 unfolding stepEvents isEvent flat
 step-good f (reads y) g = ((g, tt), tt)
 step-good f (writes y) g = ((g, tt), tt)
-step-good f (touches w a m n) g =
-    every-append GoodEvent (map RegisterRead (registersOf a)) _ (reads-good (registersOf a) (g .0))
-    (every-append GoodEvent (map RegisterRead (maskRegisters m)) _ (reads-good (maskRegisters m) (g .1))
-    (memory-good w (addressOf f a) n (address-small f a) (g .2), tt))
+step-good f (touches w s a m n) g =
+    every-append GoodEvent (map RegisterRead (segmentRegisters s)) _ (reads-good (segmentRegisters s) (g .0))
+    (every-append GoodEvent (map RegisterRead (registersOf a)) _ (reads-good (registersOf a) (g .1))
+    (every-append GoodEvent (map RegisterRead (maskRegisters m)) _ (reads-good (maskRegisters m) (g .2))
+    (memory-good w (basedOf f s (addressOf f a)) n (based-small f s (addressOf f a) (address-small f a)) (g .3), tt)))
 
 -- Tables: the shapes and lists name good registers, and only the lists of refusal 6 touch memory
 abbrev registerTest : RegSpec → Bool
@@ -104,6 +123,7 @@ abbrev baseTest : Base → Bool
 baseTest NoBase = true
 baseTest Based = true
 baseTest (Named y) = registerTest y
+baseTest (Destination y) = registerTest y
 
 abbrev shapeTest : Shape → Bool
 shapeTest Nothing = true
@@ -180,6 +200,14 @@ module _ (x : Record) (s : Sound x) where
   unfolding maskRegisters isLogged
   mask-good k h = every-unless Good (eqb k 0) (reg 8 k ∷ []) (λ e. (lt-ltb k 8 (omega arith), tt))
 
+  segment-good : (n : ℕ) → Every Good (segmentRegisters n)
+  unfolding segmentRegisters segmentRegister isLogged
+  segment-good n = every-unless Good (eqb n 0) (segmentRegister n ∷ []) (λ e. (by (eqb n 1), tt))
+    where
+      by : (t : Bool) → Good (cond t fs gs)
+      by true = refl
+      by false = refl
+
   mask-for : (m : Bool) → maskFor x m ≤ 7
   mask-for true = s .mask
   mask-for false = omega arith
@@ -192,6 +220,7 @@ module _ (x : Record) (s : Sound x) where
   base-good NoBase h = tt
   base-good Based h = (reg-good 1, tt)
   base-good (Named y) h = (h, tt)
+  base-good (Destination y) h = (h, tt)
 
   index-good : (i : Bool) → Every Good (termRegisters (indexOf x i))
   unfolding indexOf termRegisters
@@ -229,7 +258,7 @@ module _ (x : Record) (s : Sound x) where
   read-good (Memory b i d m) t n z =
       every-if GoodStep (isLea x) (map reads (registersOf (operandAddress x b i d)) ++ maskSteps (maskFor x m)) _
       (every-append GoodStep (map reads (registersOf (operandAddress x b i d))) _ (all-read (registersOf (operandAddress x b i d)) (address-good b i d t)) (mask-steps m))
-      ((address-good b i d t, mask-good (maskFor x m) (mask-for m), z refl), tt)
+      ((segment-good (segmentOf x b), address-good b i d t, mask-good (maskFor x m) (mask-for m), z refl), tt)
 
   write-good : PartGood (writePart x)
   unfolding writePart unnamed isMemory
@@ -238,7 +267,7 @@ module _ (x : Record) (s : Sound x) where
   write-good (Register i true) t n z = every-append GoodStep (maskSteps (x .mask)) _ (mask-steps true) (reg-good i, tt)
   write-good Fourth t n z = (widened-good (fourthOf x) (may-log _ _ (not-false _ n)), tt)
   write-good Immediate t n z = tt
-  write-good (Memory b i d m) t n z = ((address-good b i d t, mask-good (maskFor x m) (mask-for m), z refl), tt)
+  write-good (Memory b i d m) t n z = ((segment-good (segmentOf x b), address-good b i d t, mask-good (maskFor x m) (mask-for m), z refl), tt)
 
   module _ (named : nameless x ≡ false) (sized : sizeless x ≡ false) where
     -- where size is 0, refusal 6 says that no memory is touched
@@ -306,12 +335,13 @@ module _ (x : Record) (s : Sound x) where
     register-step-good Write y g = g
 
     implied-good : (w : Way) (o : ImplicitOperand) → operandTest (x .digest .extra) o ≡ true → GoodStep (implicitStep (x .size) w o)
-    unfolding implicitStep registersOf termRegisters maskRegisters
+    unfolding implicitStep segmentRegisters registersOf termRegisters maskRegisters
     implied-good w (implied.Register y) h = register-step-good w y h
-    implied-good w (implied.MemDeref y) h = ((and-left (registerTest y) _ h, tt), tt, list-sized (and-right (registerTest y) _ h))
-    implied-good w (implied.Disp y n) h = ((and-left (registerTest y) _ h, tt), tt, list-sized (and-right (registerTest y) _ h))
+    implied-good w (implied.MemDeref y) h = (tt, (and-left (registerTest y) _ h, tt), tt, list-sized (and-right (registerTest y) _ h))
+    implied-good w (implied.Disp y n) h = (tt, (and-left (registerTest y) _ h, tt), tt, list-sized (and-right (registerTest y) _ h))
     implied-good w (implied.MemBaseIndexScale y z n) h =
         let both = and-left (registerTest y && registerTest z) (isIn (x .digest .extra) memoryLists) h in (
+          tt,
           (and-left (registerTest y) (registerTest z) both, (and-right (registerTest y) (registerTest z) both, tt)),
           tt,
           list-sized (and-right (registerTest y && registerTest z) (isIn (x .digest .extra) memoryLists) h),

@@ -8,4 +8,7 @@ pub mod Unknown
 pub mod Opened
 pub mod Tables
 pub mod Wrong
+pub mod Fields
+pub mod OldKinds
+pub mod Everyday
 pub mod Proved

@@ -3,12 +3,12 @@ use Prim.Native.Nat.{ℕ, _+_, _-_, _≤_}
 use native.Mathlib.Omega.{arith}
 use borrow.Author.Tests.{le-ltb}
 use mathlib.Core.Path.{_≡_, refl, sym, _∙_}
-use mathlib.Core.List.{List, [], _∷_}
+use mathlib.Core.List.{List, [], _∷_, _++_}
 use mathlib.Core.Bool.{Bool, true, false, not}
 use lib.ListN.{length}
 use Rattle.laws.specs.Tests.{firstOf}
 use Rattle.laws.proofs.Outcomes.{one-outcome}
-use Rattle.registers.specs.Files.{fileOf, isFile}
+use Rattle.registers.specs.Files.{fileKind, basedKind, fileOf, isFile}
 use Rattle.record.specs.Records.{isRecord, recordOf, outside}
 use Rattle.definition.specs.Behaviors.{complex}
 use Rattle.definition.specs.Logs.{bytesOf}
@@ -16,13 +16,16 @@ use Rattle.definition.specs.Refusals.{nameless, sizeless, noRoom}
 use Rattle.definition.specs.Visits.{fixedRecord, logOf, refusalOf, visitBy}
 use Rattle.definition.specs.Listings.{listingOf, listingRefusal, listingCall}
 use Rattle.definition.proofs.Bounds.{log-bytes, log-events}
+use Rattle.definition.proofs.CutLast as law
 use Rattle.definition.proofs.ListingBound.{listing-bytes}
 use Rattle.promises.specs.Promises as promised
 use Rattle.promises.proofs.Demands.{by-refines, by-agrees}
 use Rattle.promises.proofs.Rooms.{visit-has-room, listing-has-room, visit-retried, listing-retried}
 use Rattle.promises.proofs.Outcomes.{number-is, refused-is}
 use Rattle.promises.proofs.Whole.{good-back, visit-written, visit-reads, visit-reads-inside, listing-written}
-use Rattle.promises.proofs.Unknown.{unknown-to, unknown-from}
+use Rattle.promises.proofs.Unknown.{unknown-to, unknown-from, based-to, based-from}
+use Rattle.promises.proofs.OldKinds.{old-visit, old-listing, old-calls, based-is, values}
+use Rattle.promises.proofs.Everyday.{filled-visit, filled-listing, filled-calls, unlisted-is, is-unlisted, nine-visit, nine-listing, nine-calls}
 use Rattle.promises.proofs.Opened.{opened}
 use Rattle.promises.proofs.Tables as tables
 use Rattle.promises.proofs.Wrong as wrong
@@ -41,6 +44,12 @@ agreement-decides-under b f g p s h = by-agrees false b f g p s h
 
 pub unknown-exactly : promised.UnknownExactly
 unknown-exactly f a = (unknown-to f a, unknown-from f a)
+
+pub base-unknown-exactly : promised.BaseUnknownExactly
+base-unknown-exactly f s a = (based-to f s a, based-from f s a)
+
+pub cut-last : promised.CutLast
+cut-last f x b i d = law.cut-last f x b i d
 
 pub log-is-short : promised.LogBytes
 log-is-short f x = log-bytes f x
@@ -68,6 +77,32 @@ retry-succeeds b f p s n = (visit-retried (not (isFile f)) b (fileOf f) p s n, l
 pub bounds-reached : promised.BoundsReached
 unfolding opened
 bounds-reached = (refl, refl, refl, refl, refl)
+
+pub old-records : promised.OldRecords
+old-records t f p s e =
+    let others = old-calls t e in
+    (old-visit t e (not (isFile f)) (fileOf f) p s, old-listing t e p s, others .0, others .1, others .2)
+
+pub old-files : promised.OldFiles
+old-files b t u p s good more =
+    rw (good, based-is t u good more)
+    (by-agrees false b (fileOf (basedKind ∷ (t ++ u))) (fileOf (fileKind ∷ t)) p s (λ y m. values t u good more y))
+
+pub filled-in : promised.FilledIn
+filled-in t f p s e listed =
+    let others = filled-calls t e listed in
+    (filled-visit t e listed (not (isFile f)) (fileOf f) p s, filled-listing t e listed p s, others .0, others .1, others .2)
+
+pub nine-exactly : promised.NineExactly
+nine-exactly b f p s =
+    let others = nine-calls b in
+    let first = first-refusal b f p s in (
+      (λ e. unlisted-is b (nine-visit (not (isFile f)) b (fileOf f) p s .0 (sym (first .0) ∙ e)), λ u. first .0 ∙ nine-visit (not (isFile f)) b (fileOf f) p s .1 (is-unlisted b u)),
+      (λ e. unlisted-is b (nine-listing b p s .0 (sym (first .1) ∙ e)), λ u. first .1 ∙ nine-listing b p s .1 (is-unlisted b u)),
+      (λ e. unlisted-is b (sym (others .0) ∙ e), λ u. others .0 ∙ is-unlisted b u),
+      (λ e. unlisted-is b (sym (others .1) ∙ e), λ u. others .1 ∙ is-unlisted b u),
+      (λ e. unlisted-is b (sym (others .2) ∙ e), λ u. others .2 ∙ is-unlisted b u),
+    )
 
 pub every-call-determined : promised.EveryCallDetermined
 every-call-determined b f p g s =
@@ -103,7 +138,13 @@ bench-holds = tables.bench-holds
 
 pub beyond-holds : promised.BeyondHolds
 beyond-holds =
-    (tables.widening-holds, tables.masking-holds, tables.leas-holds, tables.ordering-holds, tables.addressing-holds, tables.malformed-holds, tables.refusing-holds)
+    (tables.widening-holds, tables.masking-holds, tables.leas-holds, tables.ordering-holds, tables.addressing-holds, tables.cutting-holds, tables.malformed-holds, tables.refusing-holds)
+
+pub segments-hold : promised.SegmentsHold
+segments-hold = (tables.segments-hold, tables.refused-kinds-hold, tables.base-readings-hold, tables.base-files-hold)
+
+pub everyday-holds : promised.EverydayHolds
+everyday-holds = (tables.every-digest-holds, tables.everyday-logs-hold, tables.everyday-refusals-hold, tables.everyday-listings-hold, tables.everyday-exceptions-hold, tables.everyday-privileges-hold)
 
 pub answers-hold : promised.AnswersHold
 answers-hold =

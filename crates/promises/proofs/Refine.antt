@@ -2,7 +2,9 @@
 -- the same events. Assumes nothing.
 use Prim.Native.Nat.{ℕ}
 use mathlib.Core.Path.{_≡_, refl, ap₂}
+use mathlib.Core.Bool.{Bool, true, false, cond}
 use mathlib.Core.List.{List, [], _∷_, _++_, map, List·Memᴰ, List·Memᴰ·head, Memᴰ·append-left, Memᴰ·append-right, Memᴰ·map}
+use lib.Dec.{eqb}
 use Rattle.laws.specs.Lists.{each, flat}
 use Rattle.registers.specs.Files.{partOf, slotOf, after, partValue, valueOf}
 use Rattle.registers.specs.declared.RegSpec.{RegSpec}
@@ -11,7 +13,7 @@ use Rattle.registers.specs.declared.Value.{Value}
 use Rattle.registers.specs.declared.Value.the-variants.{Known, Unknown}
 use Rattle.implicit.specs.declared.Way.{Way}
 use Rattle.implicit.specs.declared.Way.the-variants.{Read, Write}
-use Rattle.definition.specs.Addresses.{termRegisters, registersOf, termOf, addressOf}
+use Rattle.definition.specs.Addresses.{termRegisters, registersOf, termOf, addressOf, segmentRegister, segmentRegisters, basedOn, basedOf}
 use Rattle.definition.specs.Steps.{maskRegisters, Step, reads, writes, touches}
 use Rattle.definition.specs.Logs.{memoryEvent, stepEvents, eventsOf}
 use Rattle.definition.specs.declared.Address.{Address}
@@ -64,14 +66,26 @@ module _ (f g : RegisterFile) (more : Extends f g) where
       gives-after (termOf f (a .base)) (termOf g (a .base)) _ _ (term-gives (a .base))
       (λ u. gives-after (termOf f (a .index)) (termOf g (a .index)) _ _ (term-gives (a .index)) (λ v. refl))
 
+  based-gives : (s : ℕ) (u v : Value) → Gives u v → Gives (basedOf f s u) (basedOf g s v)
+  unfolding basedOf
+  based-gives s u v h = by (eqb s 0)
+    where
+      y : RegSpec
+      y = segmentRegister s
+
+      by : (t : Bool) → Gives (cond t u (basedOn (valueOf f y) u)) (cond t v (basedOn (valueOf g y) v))
+      by true = h
+      by false = gives-after (valueOf f y) (valueOf g y) _ _ (value-gives y) (λ n. gives-after u v _ _ h (λ k. refl))
+
   step-refines : (s : Step) → RefinesAll (stepEvents f s) (stepEvents g s)
   unfolding stepEvents flat
   step-refines (reads y) = all-refl _
   step-refines (writes y) = all-refl _
-  step-refines (touches w a m n) =
-      all-append (all-refl (map RegisterRead (registersOf a)))
+  step-refines (touches w s a m n) =
+      all-append (all-refl (map RegisterRead (segmentRegisters s)))
+      (all-append (all-refl (map RegisterRead (registersOf a)))
       (all-append (all-refl (map RegisterRead (maskRegisters m)))
-      (one (memory-refines w (addressOf f a) (addressOf g a) n (address-gives a)) none))
+      (one (memory-refines w _ _ n (based-gives s (addressOf f a) (addressOf g a) (address-gives a))) none)))
 
   pub steps-refine : (ss : List Step) → RefinesAll (eventsOf f ss) (eventsOf g ss)
   unfolding each
@@ -97,11 +111,26 @@ module _ (f g : RegisterFile) where
         term-agrees (a .index) (λ y e. h y (Memᴰ·append-right (termRegisters (a .base)) e)),
       )
 
+  based-agrees : (s : ℕ) (v : Value) → agree (segmentRegisters s) → basedOf f s v ≡ basedOf g s v
+  unfolding basedOf segmentRegisters
+  based-agrees s v h = by (eqb s 0) h
+    where
+      y : RegSpec
+      y = segmentRegister s
+
+      by : (t : Bool) → agree (cond t [] (y ∷ [])) → cond t v (basedOn (valueOf f y) v) ≡ cond t v (basedOn (valueOf g y) v)
+      by true h = refl
+      by false h = rw (h y (List·Memᴰ·head refl))
+
   step-agrees : (s : Step) → AgreeOn f g (stepEvents f s) → stepEvents f s ≡ stepEvents g s
   unfolding stepEvents flat
   step-agrees (reads y) h = refl
   step-agrees (writes y) h = refl
-  step-agrees (touches w a m n) h = rw (address-agrees a (λ y e. h y (Memᴰ·append-left _ (Memᴰ·map RegisterRead e))))
+  step-agrees (touches w s a m n) h =
+      rw (
+        address-agrees a (λ y e. h y (Memᴰ·append-right (map RegisterRead (segmentRegisters s)) (Memᴰ·append-left _ (Memᴰ·map RegisterRead e)))),
+        based-agrees s (addressOf g a) (λ y e. h y (Memᴰ·append-left _ (Memᴰ·map RegisterRead e))),
+      )
 
   pub steps-agree : (ss : List Step) → AgreeOn f g (eventsOf f ss) → eventsOf f ss ≡ eventsOf g ss
   unfolding each

@@ -52,7 +52,7 @@ module _ (bad : Bool) (b : List ℕ) where
 
   visit-others : Every Other visitTests
   visit-others =
-      ((λ e. omega arith), ((λ e. omega arith), ((λ e. omega arith), ((λ e. omega arith), ((λ e. omega arith), ((λ e. omega arith), tt))))))
+      ((λ e. omega arith), ((λ e. omega arith), ((λ e. omega arith), ((λ e. omega arith), ((λ e. omega arith), ((λ e. omega arith), ((λ e. omega arith), tt)))))))
 
 -- the room of the longest is enough for every record and file
 pub room-enough : (b : List ℕ) (f : RegisterFile) (p : List ℕ) (s : ℕ) → s + mostBytes ≤ length p → noRoom (length (bytesOf (logOf b f))) p s ≡ false
@@ -67,7 +67,7 @@ abbrev listingTests : List ℕ → List (Bool × ℕ)
 listingTests b = recordTests b ++ ((complex (fixedRecord b), 4) ∷ [])
 
 listing-others : (b : List ℕ) → Every Other (listingTests b)
-listing-others b = ((λ e. omega arith), ((λ e. omega arith), ((λ e. omega arith), tt)))
+listing-others b = ((λ e. omega arith), ((λ e. omega arith), ((λ e. omega arith), ((λ e. omega arith), tt))))
 
 listing-room : (b p : List ℕ) (s : ℕ) → s + mostListed ≤ length p → noRoom (length (listingOf (fixedRecord b))) p s ≡ false
 unfolding noRoom
@@ -145,7 +145,10 @@ visit-past-end bad b f p q s t past room =
         ((λ e. omega arith), (λ e. omega arith)),
         (
           ((λ e. omega arith), (λ e. omega arith)),
-          (((λ e. omega arith), (λ e. omega arith)), (((λ e. omega arith), (λ e. omega arith)), (((λ e. omega arith), (λ e. omega arith)), tt))),
+          (
+            ((λ e. omega arith), (λ e. omega arith)),
+            (((λ e. omega arith), (λ e. omega arith)), (((λ e. omega arith), (λ e. omega arith)), (((λ e. omega arith), (λ e. omega arith)), tt))),
+          ),
         ),
       ),
     )

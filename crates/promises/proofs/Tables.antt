@@ -4,9 +4,11 @@ use Rattle.access.specs.Privileges.{levelNumber}
 use Rattle.definition.specs.Readings.{readingNumber}
 use Rattle.promises.specs.Rows.{Visited, Listed, Table}
 use Rattle.promises.specs.Bench.{bench}
-use Rattle.promises.specs.Beyond.{widening, masking, leas, ordering, addressing, malformed, refusing}
+use Rattle.promises.specs.Beyond.{widening, masking, leas, ordering, addressing, cutting, malformed, refusing}
 use Rattle.promises.specs.Answers.{listings, digestFor, digests, exceptionsFor, exceptions, privilegeFor, privileges, readingFrom, readings, numbersOf, answer-numbers, reading-numbers, digestNumbers, digest-numbers, infoNumbers, info-numbers, mayNumbers, may-numbers, privilegeNumbers, privilege-numbers, level-numbers, fileFor, files, recordFor, records, entryFor, entries, any-none, any-rows, vectors, vector-rows, vectors-after, chain-rows, may, may-rows, setter, setter-rows}
 use Rattle.promises.specs.Sweeps.{every-list, every-spec-read, every-spec-written, fixedBy, every-opcode, namedIn, every-bank, mulOf, every-width, valueIn, every-value, atSize0, every-memory-list}
+use Rattle.promises.specs.Segments.{segments, refused-kinds, base-readings, basesIn, base-files}
+use Rattle.promises.specs.Everyday.{digestAt, every-digest, everyday-logs, everyday-refusals, everyday-listings, everyday-exceptions, everyday-privileges}
 use Rattle.promises.proofs.Opened.{opened}
 
 pub bench-holds : Visited bench
@@ -33,6 +35,10 @@ pub addressing-holds : Visited addressing
 unfolding opened addressing
 addressing-holds = refl
 
+pub cutting-holds : Visited cutting
+unfolding opened cutting
+cutting-holds = refl
+
 pub malformed-holds : Visited malformed
 unfolding opened malformed
 malformed-holds = refl
@@ -40,6 +46,46 @@ malformed-holds = refl
 pub refusing-holds : Visited refusing
 unfolding opened refusing
 refusing-holds = refl
+
+pub segments-hold : Visited segments
+unfolding opened segments
+segments-hold = refl
+
+pub refused-kinds-hold : Visited refused-kinds
+unfolding opened refused-kinds
+refused-kinds-hold = refl
+
+pub every-digest-holds : Table digestAt every-digest
+unfolding opened every-digest
+every-digest-holds = refl
+
+pub everyday-logs-hold : Visited everyday-logs
+unfolding opened everyday-logs
+everyday-logs-hold = refl
+
+pub everyday-refusals-hold : Visited everyday-refusals
+unfolding opened everyday-refusals
+everyday-refusals-hold = refl
+
+pub everyday-listings-hold : Listed everyday-listings
+unfolding opened everyday-listings
+everyday-listings-hold = refl
+
+pub everyday-exceptions-hold : Table exceptionsFor everyday-exceptions
+unfolding opened everyday-exceptions
+everyday-exceptions-hold = refl
+
+pub everyday-privileges-hold : Table privilegeFor everyday-privileges
+unfolding opened everyday-privileges
+everyday-privileges-hold = refl
+
+pub base-readings-hold : Table readingFrom base-readings
+unfolding opened base-readings
+base-readings-hold = refl
+
+pub base-files-hold : Table basesIn base-files
+unfolding opened base-files
+base-files-hold = refl
 
 pub listings-hold : Listed listings
 unfolding opened listings

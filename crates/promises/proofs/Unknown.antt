@@ -3,13 +3,15 @@ use Prim.Native.Nat.{ℕ}
 use native.Mathlib.Omega.{arith}
 use mathlib.Core.Path.{_≡_, refl, sym, ap, _∙_}
 use mathlib.Core.Logic.{⊎-elim, _⊎_, inl, inr}
-use mathlib.Core.List.{List, List·Memᴰ, List·Memᴰ·head, List·Memᴰ·eq-of-singleton, List·Memᴰ·not-nil, List·Memᴰ·append-cases, Memᴰ·append-left, Memᴰ·append-right}
+use mathlib.Core.Bool.{Bool, true, false, cond}
+use lib.Dec.{eqb}
+use mathlib.Core.List.{List, [], _∷_, _++_, List·Memᴰ, List·Memᴰ·head, List·Memᴰ·eq-of-singleton, List·Memᴰ·not-nil, List·Memᴰ·append-cases, Memᴰ·append-left, Memᴰ·append-right}
 use Rattle.registers.specs.Files.{after, valueOf}
 use Rattle.registers.specs.declared.RegSpec.{RegSpec}
 use Rattle.registers.specs.declared.RegisterFile.{RegisterFile}
 use Rattle.registers.specs.declared.Value.{Value}
 use Rattle.registers.specs.declared.Value.the-variants.{Known, Unknown}
-use Rattle.definition.specs.Addresses.{termRegisters, registersOf, termOf, addressOf}
+use Rattle.definition.specs.Addresses.{termRegisters, registersOf, termOf, addressOf, segmentRegister, segmentRegisters, basedOn, basedOf}
 use Rattle.definition.specs.declared.Address.{Address}
 use Rattle.definition.specs.declared.Term.{Term}
 use Rattle.definition.specs.declared.Term.the-variants.{Absent, Plain, Scaled}
@@ -64,3 +66,39 @@ module _ (f : RegisterFile) where
       (λ m. after-unknown (termOf f (a .base)) _ (term-from (a .base) (s .0, m, s .2)))
       (λ m. second-unknown (termOf f (a .base)) _ (λ u. after-unknown (termOf f (a .index)) _ (term-from (a .index) (s .0, m, s .2))))
       (List·Memᴰ·append-cases (termRegisters (a .base)) (s .1))
+
+  -- an access, by the base of its segment and its address
+  based-first : (b v : Value) → basedOn b v ≡ Unknown → (b ≡ Unknown) ⊎ (v ≡ Unknown)
+  based-first Unknown v e = inl refl
+  based-first (Known u) Unknown e = inr refl
+  based-first (Known u) (Known a) e = absurd (known-not _ e)
+
+  pub based-to : (s : ℕ) (a : Address) → basedOf f s (addressOf f a) ≡ Unknown → Some f (segmentRegisters s ++ registersOf a)
+  unfolding basedOf segmentRegisters
+  based-to s a e = by (eqb s 0) e
+    where
+      y : RegSpec
+      y = segmentRegister s
+
+      by : (t : Bool) → cond t (addressOf f a) (basedOn (valueOf f y) (addressOf f a)) ≡ Unknown → Some f (cond t [] (y ∷ []) ++ registersOf a)
+      by true e = unknown-to a e
+      by false e =
+          ⊎-elim
+          (λ h. (y, List·Memᴰ·head refl, h))
+          (λ h. let r = unknown-to a h in (r .0, Memᴰ·append-right (y ∷ []) (r .1), r .2))
+          (based-first (valueOf f y) (addressOf f a) e)
+
+  pub based-from : (s : ℕ) (a : Address) → Some f (segmentRegisters s ++ registersOf a) → basedOf f s (addressOf f a) ≡ Unknown
+  unfolding basedOf segmentRegisters
+  based-from s a r = by (eqb s 0) r
+    where
+      y : RegSpec
+      y = segmentRegister s
+
+      by : (t : Bool) → Some f (cond t [] (y ∷ []) ++ registersOf a) → cond t (addressOf f a) (basedOn (valueOf f y) (addressOf f a)) ≡ Unknown
+      by true r = unknown-from a r
+      by false r =
+          ⊎-elim
+          (λ m. after-unknown (valueOf f y) _ (ap (valueOf f) (sym (List·Memᴰ·eq-of-singleton m)) ∙ r .2))
+          (λ m. second-unknown (valueOf f y) _ (λ u. after-unknown (addressOf f a) _ (unknown-from a (r .0, m, r .2))))
+          (List·Memᴰ·append-cases (y ∷ []) (r .1))

@@ -14,7 +14,7 @@ use Rattle.laws.proofs.Every.{Every, first-zero}
 use Rattle.laws.proofs.Room.{starts-inside, has-left}
 use Rattle.registers.specs.Files.{fileOf, isFile}
 use Rattle.registers.specs.declared.RegisterFile.{RegisterFile}
-use Rattle.record.specs.Records.{isRecord, recordOf, outside}
+use Rattle.record.specs.Records.{recordOf, recordTests}
 use Rattle.definition.specs.Behaviors.{complex}
 use Rattle.definition.specs.Logs.{eventBytes, bytesOf}
 use Rattle.definition.specs.Refusals.{nameless, sizeless, noRoom}
@@ -64,33 +64,32 @@ module _ (bad : Bool) (b : List ℕ) (f : RegisterFile) (p : List ℕ) (s n : �
 
   abbrev tests : List (Bool × ℕ)
   tests =
-      (not (isRecord b), 1)
-      ∷ (outside (recordOf b), 2)
-      ∷ (bad, 3)
+      recordTests b
+      ++ ((bad, 3)
       ∷ (complex (fixedRecord b), 4)
       ∷ (nameless (fixedRecord b), 5)
       ∷ (sizeless (fixedRecord b), 6)
       ∷ (noRoom (length (bytesOf (logOf b f))) p s, 7)
-      ∷ []
+      ∷ [])
 
   visit-tests : Every (λ t. t .0 ≡ false) tests
   unfolding refusalOf
-  visit-tests = first-zero tests (lit< tt, (lit< tt, (lit< tt, (lit< tt, (lit< tt, (lit< tt, (lit< tt, tt))))))) (visit-done .0)
+  visit-tests = first-zero tests (lit< tt, (lit< tt, (lit< tt, (lit< tt, (lit< tt, (lit< tt, (lit< tt, (lit< tt, tt)))))))) (visit-done .0)
 
   pub visit-written : Written (bytesOf (logOf b f)) p new s n
-  visit-written = rw (visit-done .1, visit-done .2) (spliced (bytesOf (logOf b f)) p s (visit-tests .1 .1 .1 .1 .1 .1 .0))
+  visit-written = rw (visit-done .1, visit-done .2) (spliced (bytesOf (logOf b f)) p s (visit-tests .1 .1 .1 .1 .1 .1 .1 .0))
 
   -- within the buffer
   pub visit-inside : s + n ≤ length p
   unfolding noRoom
   visit-inside =
       let m = length (bytesOf (logOf b f)) in
-      let room = visit-tests .1 .1 .1 .1 .1 .1 .0 in
+      let room = visit-tests .1 .1 .1 .1 .1 .1 .1 .0 in
       omega (arith, visit-done .1, starts-inside m s (length p) room, has-left m s (length p) room)
 
   log-good : Every GoodEvent (logOf b f)
   unfolding logOf
-  log-good = events-good (fixedRecord b) (fixed-sound (recordOf b) (visit-tests .1 .0)) (visit-tests .1 .1 .1 .1 .0) (visit-tests .1 .1 .1 .1 .1 .0) f
+  log-good = events-good (fixedRecord b) (fixed-sound (recordOf b) (visit-tests .1 .0)) (visit-tests .1 .1 .1 .1 .1 .0) (visit-tests .1 .1 .1 .1 .1 .1 .0) f
 
   pub visit-reads : Reads (take n (drop s new)) (logOf b f)
   visit-reads = rw (visit-written .inside) (reads-bytes (logOf b f) log-good)
@@ -110,18 +109,17 @@ module _ (b p : List ℕ) (s n : ℕ) (new : List ℕ) (done : listingCall b p s
 
   abbrev listing-tests : List (Bool × ℕ)
   listing-tests =
-      (not (isRecord b), 1)
-      ∷ (outside (recordOf b), 2)
-      ∷ (complex (fixedRecord b), 4)
+      recordTests b
+      ++ ((complex (fixedRecord b), 4)
       ∷ (noRoom (length (listingOf (fixedRecord b))) p s, 7)
-      ∷ []
+      ∷ [])
 
   listing-tested : Every (λ t. t .0 ≡ false) listing-tests
   unfolding listingRefusal
-  listing-tested = first-zero listing-tests (lit< tt, (lit< tt, (lit< tt, (lit< tt, tt)))) (listing-done .0)
+  listing-tested = first-zero listing-tests (lit< tt, (lit< tt, (lit< tt, (lit< tt, (lit< tt, tt))))) (listing-done .0)
 
   pub listing-written : Written (listingOf (fixedRecord b)) p new s n
-  listing-written = rw (listing-done .1, listing-done .2) (spliced (listingOf (fixedRecord b)) p s (listing-tested .1 .1 .1 .0))
+  listing-written = rw (listing-done .1, listing-done .2) (spliced (listingOf (fixedRecord b)) p s (listing-tested .1 .1 .1 .1 .0))
 
 -- where a visit answers n, n is the length of the defined log
 pub visit-count : (b f p : List ℕ) (s n : ℕ) → visitOf b f p s .0 ≡ Done n → n ≡ length (bytesOf (logOf b (fileOf f)))

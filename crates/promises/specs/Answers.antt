@@ -69,10 +69,10 @@ listings =
     ∷ rowIn 5 6 [] [] (Short 0) []
     ∷ rowIn 0 1 (opcode 1 ∷ behavior 0x18 ∷ specs (RegMMM ∷ []) ∷ regs 1 W 0 ∷ []) [] (Short 18) []
     -- the fullest listing fits in the most bytes that a listing has, and not in one less
-    ∷ rowIn mostListed 0 fullest-fields [] (Done 34)
+    ∷ rowIn mostListed 0 fullest-fields [] (Done mostListed)
     (0x41 ∷ 3 ∷ 0x42 ∷ 0 ∷ 4 ∷ 1 ∷ 0x42 ∷ 0 ∷ 4 ∷ 2 ∷ 0x44 ∷ 0 ∷ 4 ∷ 0xF8 ∷ 0xFF ∷ 0xFF ∷ 0xFF ∷ 2
     ∷ 0x46 ∷ 0 ∷ 33 ∷ 3 ∷ 0x46 ∷ 1 ∷ 33 ∷ 3 ∷ 0x46 ∷ 2 ∷ 33 ∷ 3 ∷ 0x46 ∷ 3 ∷ 33 ∷ 3 ∷ [])
-    ∷ rowIn (mostListed - 1) 0 fullest-fields [] (Short 34) []
+    ∷ rowIn (mostListed - 1) 0 fullest-fields [] (Short mostListed) []
     ∷ []
 
 -- The digest after fix-ups
@@ -223,7 +223,7 @@ readings =
     ∷ (((6 ∷ []), 0), Bad 1)
     -- contents
     ∷ (((1 ∷ 0 ∷ 16 ∷ []), 0), Bad 2)
-    ∷ (((2 ∷ 13 ∷ 0 ∷ []), 0), Bad 2)
+    ∷ (((2 ∷ 14 ∷ 0 ∷ []), 0), Bad 2)
     ∷ (((3 ∷ 0 ∷ 0 ∷ 0 ∷ 0 ∷ 0 ∷ 0 ∷ 0 ∷ 0 ∷ 0 ∷ []), 0), Bad 2)
     ∷ (((4 ∷ 0 ∷ 0 ∷ 0 ∷ 0 ∷ 0 ∷ 0 ∷ 0 ∷ 0 ∷ 65 ∷ []), 0), Bad 2)
     ∷ (((5 ∷ 0 ∷ []), 0), Bad 2)
@@ -277,8 +277,8 @@ file n vs k = record { number = n; file = record { values = vs; known = k } }
 
 unfoldable pub files : List (List Patch × FileAnswer)
 files =
-    ((knows 0 5 ∷ knows 16 6 ∷ []), file 0 (5 ∷ 0 ∷ 0 ∷ 0 ∷ 0 ∷ 0 ∷ 0 ∷ 0 ∷ 0 ∷ 0 ∷ 0 ∷ 0 ∷ 0 ∷ 0 ∷ 0 ∷ 0 ∷ 6 ∷ []) 0x10001)
-    ∷ ((knows 0 5 ∷ long 140 ∷ []), file 3 (0 ∷ 0 ∷ 0 ∷ 0 ∷ 0 ∷ 0 ∷ 0 ∷ 0 ∷ 0 ∷ 0 ∷ 0 ∷ 0 ∷ 0 ∷ 0 ∷ 0 ∷ 0 ∷ 0 ∷ []) 0)
+    ((knows 0 5 ∷ knows 16 6 ∷ []), file 0 (5 ∷ 0 ∷ 0 ∷ 0 ∷ 0 ∷ 0 ∷ 0 ∷ 0 ∷ 0 ∷ 0 ∷ 0 ∷ 0 ∷ 0 ∷ 0 ∷ 0 ∷ 0 ∷ 6 ∷ 0 ∷ 0 ∷ []) 0x10001)
+    ∷ ((knows 0 5 ∷ long 140 ∷ []), file 3 (0 ∷ 0 ∷ 0 ∷ 0 ∷ 0 ∷ 0 ∷ 0 ∷ 0 ∷ 0 ∷ 0 ∷ 0 ∷ 0 ∷ 0 ∷ 0 ∷ 0 ∷ 0 ∷ 0 ∷ 0 ∷ 0 ∷ []) 0)
     ∷ []
 
 abbrev pub recordFor : List Patch → RecordAnswer

@@ -1,8 +1,8 @@
--- The bench records P1 to P11 of document 01.
+-- The bench records P1 to P11 of document 01, and P5 under the address size (document 02).
 use Prim.Native.Nat.{ℕ}
 use mathlib.Core.List.{List, [], _∷_}
 use Rattle.definition.specs.declared.Answer.the-variants.{Done, Refused, Complex, Short}
-use Rattle.promises.specs.Rows.{Patch, opcode, specs, regs, size, scale, disp, behavior, access, list, knows, Q, D, RegRRR, RegMMM, Deref, Disp, MemIndexScale, DispU32, Row, rowIn, row}
+use Rattle.promises.specs.Rows.{Patch, opcode, specs, regs, size, scale, disp, prefixes, behavior, access, list, knows, Q, D, RegRRR, RegMMM, Deref, Disp, MemIndexScale, DispU32, Row, rowIn, row}
 
 abbrev pub P1 : List Patch
 P1 = specs (RegRRR ∷ RegMMM ∷ []) ∷ access 0x06 ∷ regs 0 D 0 ∷ regs 1 D 3 ∷ []
@@ -25,6 +25,12 @@ abbrev pub P3-log : List ℕ
 P3-log =
     0x02 ∷ 0x0B ∷ 0x00 ∷ 0x01 ∷ 0x00 ∷ 0x03 ∷ 0x05 ∷ 0x08 ∷ 0x01 ∷ 0x00 ∷ 0x03 ∷ 0x06 ∷ 0x08 ∷ 0x01 ∷ 0x00 ∷ 0x00 ∷ []
 
+abbrev pub P5 : List Patch
+P5 = specs (Disp ∷ []) ∷ disp 0xFFFFFFF8 ∷ []
+
+abbrev pub P5-file : List Patch
+P5-file = knows 0 4 ∷ []
+
 unfoldable pub bench : List Row
 bench =
     row P1 [] (Done 6) P1-log
@@ -35,7 +41,7 @@ bench =
     ∷ row (opcode 1 ∷ behavior 0x18 ∷ access 0x01 ∷ specs (RegMMM ∷ []) ∷ regs 1 D 3 ∷ []) [] (Done 15)
     (0x01 ∷ 0x01 ∷ 0x00 ∷ 0x02 ∷ 0x00 ∷ 0x00 ∷ 0x02 ∷ 0x00 ∷ 0x02 ∷ 0x02 ∷ 0x0B ∷ 0x00 ∷ 0x01 ∷ 0x01 ∷ 0x03 ∷ [])
     -- P5, P6
-    ∷ row (specs (Disp ∷ []) ∷ disp 0xFFFFFFF8 ∷ []) (knows 0 4 ∷ []) (Done 13)
+    ∷ row P5 P5-file (Done 13)
     (0x01 ∷ 0x00 ∷ 0x00 ∷ 0x03 ∷ 0xFC ∷ 0xFF ∷ 0xFF ∷ 0xFF ∷ 0xFF ∷ 0xFF ∷ 0xFF ∷ 0xFF ∷ 0x08 ∷ [])
     ∷ row (specs (DispU32 ∷ []) ∷ disp 0xFFFFFFF8 ∷ []) [] (Done 10)
     (0x03 ∷ 0xF8 ∷ 0xFF ∷ 0xFF ∷ 0xFF ∷ 0x00 ∷ 0x00 ∷ 0x00 ∷ 0x00 ∷ 0x08 ∷ [])
@@ -60,4 +66,7 @@ bench =
     -- size 64 passes, 65 is refused 2
     ∷ row (specs (Deref ∷ []) ∷ size 64 ∷ []) [] (Done 5) (0x01 ∷ 0x00 ∷ 0x00 ∷ 0x05 ∷ 0x40 ∷ [])
     ∷ row (specs (Deref ∷ []) ∷ size 65 ∷ []) [] (Refused 2) []
+    -- P5 under the address size
+    ∷ row (prefixes 0x08 ∷ P5) P5-file (Done 13)
+    (0x01 ∷ 0x00 ∷ 0x00 ∷ 0x03 ∷ 0xFC ∷ 0xFF ∷ 0xFF ∷ 0xFF ∷ 0x00 ∷ 0x00 ∷ 0x00 ∷ 0x00 ∷ 0x08 ∷ [])
     ∷ []

@@ -4,8 +4,8 @@ use Prim.Native.Nat.{_+_, _-_, _*_}
 use mathlib.Core.List.{List, [], _∷_}
 use Rattle.definition.specs.Limits.{mostBytes, mostEvents}
 use Rattle.definition.specs.declared.Answer.the-variants.{Done, Refused, Complex, Short}
-use Rattle.promises.specs.Rows.{put, long, opcode, count, specs, regs, size, scale, disp, imm, prefixes, mask, behavior, access, list, knows, Q, D, W, B, K, RFLAGS, Nothing, RegRRR, RegMMM, RegVex, Reg4, RegRRR-maskmerge, Deref, Deref-mask, Deref-rsi, Deref-edi, Disp, MemIndexScale, MemBaseIndexScale, MemBaseIndexScale-mask, MemBaseIndexScaleDisp, DispU64, DispU32, log, reads, writes, loads, stores, loads-unknown, stores-unknown, Row, rowIn, row}
-use Rattle.promises.specs.Bench.{P2, P2-file, P2-log}
+use Rattle.promises.specs.Rows.{put, long, plain-opcode, opcode, count, specs, regs, size, scale, disp, imm, prefixes, mask, behavior, access, list, knows, Q, D, W, B, K, RFLAGS, Nothing, RegRRR, RegMMM, RegVex, Reg4, RegRRR-maskmerge, Deref, Deref-mask, Deref-rdi, Deref-rsi, Deref-edi, Disp, MemIndexScale, MemBaseIndexScale, MemBaseIndexScale-mask, MemBaseIndexScaleDisp, DispU64, DispU32, log, reads, writes, loads, stores, loads-unknown, stores-unknown, Row, rowIn, row}
+use Rattle.promises.specs.Bench.{P2, P2-file, P2-log, P5, P5-file}
 use Rattle.promises.specs.Fullest.{fullest-fields, fullest-known, fullest-log}
 
 -- Only an explicit unmasked write to D is logged as Q
@@ -102,6 +102,34 @@ addressing =
     ∷ row (specs (DispU64 ∷ []) ∷ disp 0x8877665544332211 ∷ []) [] (Done 10) (log (loads 0x8877665544332211 8 ∷ []))
     ∷ []
 
+-- The address size: the sum of an explicit operand is cut to 32 bits, and that of a list is not
+unfoldable pub cutting : List Row
+cutting =
+    -- the registers that specs name, and the two displacements that stand alone
+    row (prefixes 0x08 ∷ specs (Deref-rdi ∷ []) ∷ []) (knows 7 0x1FEDCBA98 ∷ []) (Done 13) (log (reads Q 7 ∷ loads 0xFEDCBA98 8 ∷ []))
+    ∷ row (prefixes 0x08 ∷ specs (Deref-edi ∷ []) ∷ []) (knows 7 0x1FEDCBA98 ∷ []) (Done 13) (log (reads D 7 ∷ loads 0xFEDCBA98 8 ∷ []))
+    ∷ row (prefixes 0x08 ∷ specs (DispU64 ∷ []) ∷ disp 0x8877665584332211 ∷ []) [] (Done 10) (log (loads 0x84332211 8 ∷ []))
+    ∷ row (prefixes 0x08 ∷ specs (DispU32 ∷ []) ∷ disp 0x1180000000 ∷ []) [] (Done 10) (log (loads 0x80000000 8 ∷ []))
+    -- after the index and after the displacement, read and written
+    ∷ row (prefixes 0x08 ∷ specs (MemBaseIndexScaleDisp ∷ []) ∷ access 0x03 ∷ regs 1 Q 3 ∷ regs 2 Q 1 ∷ scale 2 ∷ disp 1 ∷ []) (knows 3 0xFFFFFFFE ∷ knows 1 1 ∷ []) (Done 32)
+    (log (reads Q 3 ∷ reads Q 1 ∷ loads 1 8 ∷ reads Q 3 ∷ reads Q 1 ∷ stores 1 8 ∷ []))
+    -- with a mask
+    ∷ row (prefixes 0x08 ∷ specs (Deref-mask ∷ []) ∷ access 0x02 ∷ regs 1 Q 3 ∷ mask 1 ∷ []) (knows 3 0x1FEDCBA98 ∷ []) (Done 16)
+    (log (reads Q 3 ∷ reads K 1 ∷ stores 0xFEDCBA98 8 ∷ []))
+    -- the write part under LEA
+    ∷ row (prefixes 0x08 ∷ opcode 28 ∷ access 0x03 ∷ P5) P5-file (Done 16) (log (reads Q 0 ∷ reads Q 0 ∷ stores 0xFFFFFFFC 8 ∷ []))
+    -- unknown stays unknown
+    ∷ row (prefixes 0x08 ∷ P5) [] (Done 5) (log (reads Q 0 ∷ loads-unknown 8 ∷ []))
+    -- no other bit cuts
+    ∷ row (prefixes 0x07 ∷ P5) P5-file (Done 13) (log (reads Q 0 ∷ loads 0xFFFFFFFFFFFFFFFC 8 ∷ []))
+    -- lists 15, 16, 26, 27, 28
+    ∷ row (prefixes 0x08 ∷ list 15 ∷ []) (knows 7 0x1FEDCBA98 ∷ []) (Done 13) (log (reads D 7 ∷ stores 0xFEDCBA98 8 ∷ []))
+    ∷ row (prefixes 0x08 ∷ list 16 ∷ []) (knows 7 0x1FEDCBA98 ∷ []) (Done 13) (log (reads Q 7 ∷ stores 0x1FEDCBA98 8 ∷ []))
+    ∷ row (prefixes 0x08 ∷ list 26 ∷ []) (knows 4 0 ∷ []) (Done 19) (log (reads Q 4 ∷ writes Q 4 ∷ reads Q 4 ∷ stores 0xFFFFFFFFFFFFFFF8 8 ∷ []))
+    ∷ row (prefixes 0x08 ∷ list 27 ∷ []) (knows 4 0x1FEDCBA98 ∷ []) (Done 19) (log (reads Q 4 ∷ writes Q 4 ∷ reads Q 4 ∷ loads 0x1FEDCBA98 8 ∷ []))
+    ∷ row (prefixes 0x08 ∷ list 28 ∷ []) (knows 3 0x1FEDCBA00 ∷ knows 0 0x98 ∷ []) (Done 16) (log (reads Q 3 ∷ reads B 0 ∷ loads 0x1FEDCBA98 8 ∷ []))
+    ∷ []
+
 -- Refusals 1, 2 and 3
 unfoldable pub malformed : List Row
 malformed =
@@ -146,7 +174,7 @@ refusing =
     ∷ row (opcode 23 ∷ behavior 0x20 ∷ specs (RegMMM ∷ []) ∷ []) [] (Complex 23) []
     ∷ row (opcode 28 ∷ behavior 0x20 ∷ specs (RegMMM ∷ []) ∷ []) [] (Complex 28) []
     -- 4 before 5
-    ∷ row (behavior 0x20 ∷ specs (Nothing ∷ []) ∷ []) [] (Complex 40) []
+    ∷ row (behavior 0x20 ∷ specs (Nothing ∷ []) ∷ []) [] (Complex plain-opcode) []
     -- Nothing: with an access below count
     ∷ row (specs (Nothing ∷ []) ∷ []) [] (Refused 5) []
     ∷ row (specs (Nothing ∷ []) ∷ access 0x02 ∷ []) [] (Refused 5) []

@@ -6,4 +6,6 @@ pub mod Beyond
 pub mod Answers
 pub mod Sweeps
 pub mod Fullest
+pub mod Segments
+pub mod Everyday
 pub mod Promises

@@ -1,62 +1,68 @@
 -- WHAT IS PROMISED of the definitions, each statement after its sentence. proofs/Proved.antt proves them all; nothing is assumed.
 -- The words that the statements use stand in Refinement.antt (files and events), Calls.antt (calls) and Rows.antt (tables).
-use Prim.Native.Nat.{ℕ, _+_, _≤_}
+use Prim.Native.Nat.{ℕ, _+_, _-_, _≤_}
 use mathlib.Core.Path.{_≡_}
-use mathlib.Core.List.{List, [], _++_, List·Memᴰ}
+use mathlib.Core.List.{List, [], _∷_, _++_, List·Memᴰ}
 use mathlib.Core.Logic.{_↔_}
 use mathlib.Core.Bool.{Bool, true, not}
 use lib.ListN.{length, take, drop, set}
 use Rattle.laws.specs.Lending.{splice}
 use Rattle.laws.specs.Outcomes.{OneOutcome}
-use Rattle.access.specs.Exceptions.{setOf, thenSet, mayOf}
+use Rattle.access.specs.Exceptions.{setOf, thenSet, mayOf, infoNumber}
 use Rattle.access.specs.Privileges.{levelNumber}
 use Rattle.access.specs.declared.ExceptionInfo.{ExceptionInfo}
 use Rattle.access.specs.declared.InfoAnswer.{InfoAnswer}
-use Rattle.registers.specs.Files.{fileOf, fileAnswer, isFile, slotOf, valueOf}
+use Rattle.registers.specs.Files.{fileKind, basedKind, fileBytes, basedBytes, fileOf, fileAnswer, isFile, slotOf, after, valueOf}
 use Rattle.registers.specs.declared.RegSpec.{RegSpec}
 use Rattle.registers.specs.declared.RegisterFile.{RegisterFile}
-use Rattle.registers.specs.declared.Value.the-variants.{Unknown}
-use Rattle.digest.specs.Digests.{withPrivilege, withFlags, withNontrivial, withComplex, operandAnswer, listAnswer, then}
+use Rattle.registers.specs.declared.Value.the-variants.{Known, Unknown}
+use Rattle.digest.specs.Digests.{withPrivilege, withFlags, withNontrivial, withComplex, operandAnswer, listAnswer, then, digestNumber}
 use Rattle.digest.specs.declared.BehaviorDigest.{BehaviorDigest}
 use Rattle.digest.specs.declared.DigestAnswer.{DigestAnswer}
 use Rattle.implicit.specs.Lists.{entryAt}
-use Rattle.record.specs.Records.{recordAnswer}
+use Rattle.everyday.specs.Rows.{unlisted, isEveryday}
+use Rattle.record.specs.Records.{recordKind, segmentKind, everydayKind, everydayBytes, recordBytes, recordAnswer, addressSize}
 use Rattle.record.specs.declared.Record.{Record}
-use Rattle.definition.specs.Addresses.{registersOf, addressOf}
-use Rattle.definition.specs.Behaviors.{digestCall, privilegeCall, exceptionsCall}
+use Rattle.definition.specs.Addresses.{registersOf, lowIf, uncut, addressOf, operandAddress, segmentRegisters, basedOf}
+use Rattle.definition.specs.Behaviors.{digestCall, privilegeCall, exceptionsCall, privilegeNumber}
 use Rattle.definition.specs.Steps.{stepsOf}
 use Rattle.definition.specs.Logs.{eventsOf, eventBytes, bytesOf}
+use Rattle.definition.specs.Limits.{mostEvents, mostBytes, mostListed}
 use Rattle.definition.specs.Visits.{fixedRecord, logOf, refusalOf, visitUnder, visitOf, numberOf}
 use Rattle.definition.specs.Listings.{listingOf, listingRefusal, listingCall}
 use Rattle.definition.specs.Readings.{isEvent, readFront, readAt, Reads, readingNumber}
 use Rattle.definition.specs.declared.Address.{Address}
 use Rattle.definition.specs.declared.Answer.{Answer}
 use Rattle.definition.specs.declared.Answer.the-variants.{Done, Short}
+use Rattle.definition.specs.declared.Base.{Base}
+use Rattle.definition.specs.declared.Displacement.{Displacement}
 use Rattle.definition.specs.declared.Event.{Event}
 use Rattle.definition.specs.declared.Reading.the-variants.{Found}
 use Rattle.promises.specs.Refinement.{Extends, AgreeOn}
 use Rattle.promises.specs.Calls.{Refusal, Retried, Alike, Written, ReadsFrom, Addressable, Program}
 use Rattle.promises.specs.Rows.{recordWith, fileKnowing, buffer, Visited, Listed, Table}
 use Rattle.promises.specs.Bench.{P1, P2, P2-file, bench}
-use Rattle.promises.specs.Beyond.{widening, masking, leas, ordering, addressing, malformed, refusing}
+use Rattle.promises.specs.Beyond.{widening, masking, leas, ordering, addressing, cutting, malformed, refusing}
 use Rattle.promises.specs.Answers.{listings, digestFor, digests, exceptionsFor, exceptions, privilegeFor, privileges, readingFrom, readings, numbersOf, answer-numbers, reading-numbers, digestNumbers, digest-numbers, infoNumbers, info-numbers, mayNumbers, may-numbers, privilegeNumbers, privilege-numbers, level-numbers, fileFor, files, recordFor, records, entryFor, entries, any-none, any-rows, vectors, vector-rows, vectors-after, chain-rows, may, may-rows, setter, setter-rows}
 use Rattle.promises.specs.Sweeps.{every-list, every-spec-read, every-spec-written, fixedBy, every-opcode, namedIn, every-bank, mulOf, every-width, valueIn, every-value, atSize0, every-memory-list}
 use Rattle.promises.specs.Fullest.{fullest, fullest-file}
+use Rattle.promises.specs.Segments.{segments, refused-kinds, base-readings, basesIn, base-files}
+use Rattle.promises.specs.Everyday.{opcodeIn, filledIn, Unlisted, digestAt, every-digest, everyday-logs, everyday-refusals, everyday-listings, everyday-exceptions, everyday-privileges}
 
--- DEMAND 3, FIRST HALF. Under a file that knows more, with 177 bytes of room on both sides, a visit is refused as before, number
+-- DEMAND 3, FIRST HALF. Under a file that knows more, with room for the longest log on both sides, a visit is refused as before, number
 -- and opcode, and leaves the buffer; or it logs the same events in the same order, but for unknown addresses that are filled in.
 abbrev pub MoreKnownRefines : Type 0
 MoreKnownRefines =
     (b f g p q : List ℕ) (s t : ℕ)
     → isFile f ≡ true → isFile g ≡ true → Extends (fileOf f) (fileOf g)
-    → s + 177 ≤ length p → t + 177 ≤ length q
+    → s + mostBytes ≤ length p → t + mostBytes ≤ length q
     → Alike (visitOf b f p s) (visitOf b g q t) p q s t (logOf b (fileOf f)) (logOf b (fileOf g))
 
 -- the same under files that are parsed already
 abbrev pub MoreKnownRefinesUnder : Type 0
 MoreKnownRefinesUnder =
     (b : List ℕ) (f g : RegisterFile) (p q : List ℕ) (s t : ℕ)
-    → Extends f g → s + 177 ≤ length p → t + 177 ≤ length q
+    → Extends f g → s + mostBytes ≤ length p → t + mostBytes ≤ length q
     → Alike (visitUnder b f p s) (visitUnder b g q t) p q s t (logOf b f) (logOf b g)
 
 -- DEMAND 3, SECOND HALF. Files that answer alike every register that the log reads give the same answer and the same buffer,
@@ -78,40 +84,92 @@ UnknownExactly =
     (f : RegisterFile) (a : Address)
     → (addressOf f a ≡ Unknown) ↔ ((y : RegSpec) × List·Memᴰ y (registersOf a) × (valueOf f y ≡ Unknown))
 
--- BOUNDS. No log is longer than 177 bytes or has more than 38 events, and no listing is longer than 34 bytes, for every record,
+-- The same of an access: it lies at an unknown address exactly where the base of its segment or a register of its address is unknown.
+abbrev pub BaseUnknownExactly : Type 0
+BaseUnknownExactly =
+    (f : RegisterFile) (s : ℕ) (a : Address)
+    → (basedOf f s (addressOf f a) ≡ Unknown) ↔ ((y : RegSpec) × List·Memᴰ y (segmentRegisters s ++ registersOf a) × (valueOf f y ≡ Unknown))
+
+-- CUT LAST. An explicit operand lies where the sum of all its parts says; with the address-size bit, at its low 32 bits.
+abbrev pub CutLast : Type 0
+CutLast =
+    (f : RegisterFile) (x : Record) (b : Base) (i : Bool) (d : Displacement)
+    → addressOf f (operandAddress x b i d)
+    ≡ after (addressOf f (uncut (operandAddress x b i d))) (λ v. Known (lowIf (addressSize x) v))
+
+-- BOUNDS. No log is longer than mostBytes or has more than mostEvents, and no listing is longer than mostListed, for every record,
 -- refused or not, and every file.
 abbrev pub LogBytes : Type 0
-LogBytes = (f : RegisterFile) (x : Record) → length (bytesOf (eventsOf f (stepsOf x))) ≤ 177
+LogBytes = (f : RegisterFile) (x : Record) → length (bytesOf (eventsOf f (stepsOf x))) ≤ mostBytes
 
 abbrev pub LogEvents : Type 0
-LogEvents = (f : RegisterFile) (x : Record) → length (eventsOf f (stepsOf x)) ≤ 38
+LogEvents = (f : RegisterFile) (x : Record) → length (eventsOf f (stepsOf x)) ≤ mostEvents
 
 abbrev pub ListingBytes : Type 0
-ListingBytes = (x : Record) → length (listingOf x) ≤ 34
+ListingBytes = (x : Record) → length (listingOf x) ≤ mostListed
 
 -- so with so much room no call is refused 7
 abbrev pub RoomSuffices : Type 0
 RoomSuffices =
     (b f p : List ℕ) (s : ℕ)
-    → (s + 177 ≤ length p → numberOf (visitOf b f p s .0) ≡ 7 → ⊥)
-    × (s + 34 ≤ length p → numberOf (listingCall b p s .0) ≡ 7 → ⊥)
+    → (s + mostBytes ≤ length p → numberOf (visitOf b f p s .0) ≡ 7 → ⊥)
+    × (s + mostListed ≤ length p → numberOf (listingCall b p s .0) ≡ 7 → ⊥)
 
 -- A RETRY SUCCEEDS. Where visiting is refused 7 and says n, the same call over any buffer with n bytes from its start on is not refused
 -- and writes n bytes; with fewer it is refused 7 and says n again. n is within the bound. The same for listing.
 abbrev pub RetrySucceeds : Type 0
 RetrySucceeds =
     (b f p : List ℕ) (s n : ℕ)
-    → (visitOf b f p s .0 ≡ Short n → Retried (visitOf b f) n × (n ≤ 177))
-    × (listingCall b p s .0 ≡ Short n → Retried (listingCall b) n × (n ≤ 34))
+    → (visitOf b f p s .0 ≡ Short n → Retried (visitOf b f) n × (n ≤ mostBytes))
+    × (listingCall b p s .0 ≡ Short n → Retried (listingCall b) n × (n ≤ mostListed))
 
--- Each bound is reached, by one record: a visit that writes 177 bytes of 38 events, a listing of 34 bytes; one byte less is refused.
+-- Each bound is reached, by one record, in bytes and in events; with room for one byte less it is refused.
 abbrev pub BoundsReached : Type 0
 BoundsReached =
-    (visitOf fullest fullest-file (buffer 177) 0 .0 ≡ Done 177)
-    × (length (logOf fullest (fileOf fullest-file)) ≡ 38)
-    × (listingCall fullest (buffer 34) 0 .0 ≡ Done 34)
-    × (visitOf fullest fullest-file (buffer 176) 0 ≡ (Short 177, buffer 176))
-    × (listingCall fullest (buffer 33) 0 ≡ (Short 34, buffer 33))
+    (visitOf fullest fullest-file (buffer mostBytes) 0 .0 ≡ Done mostBytes)
+    × (length (logOf fullest (fileOf fullest-file)) ≡ mostEvents)
+    × (listingCall fullest (buffer mostListed) 0 .0 ≡ Done mostListed)
+    × (visitOf fullest fullest-file (buffer (mostBytes - 1)) 0 ≡ (Short mostBytes, buffer (mostBytes - 1)))
+    × (listingCall fullest (buffer (mostListed - 1)) 0 ≡ (Short mostListed, buffer (mostListed - 1)))
+
+-- OLD KINDS. A record that names no segment answers what the same bytes answer in the kind without one, and a file whose known bits are
+-- those of the first kind what its bytes without the bases answer.
+abbrev pub OldRecords : Type 0
+OldRecords =
+    (t f p : List ℕ) (s : ℕ)
+    → length t + 1 ≡ recordBytes
+    → (visitOf (segmentKind ∷ (t ++ (0 ∷ []))) f p s ≡ visitOf (recordKind ∷ t) f p s)
+    × (listingCall (segmentKind ∷ (t ++ (0 ∷ []))) p s ≡ listingCall (recordKind ∷ t) p s)
+    × (digestCall (segmentKind ∷ (t ++ (0 ∷ []))) ≡ digestCall (recordKind ∷ t))
+    × (privilegeCall (segmentKind ∷ (t ++ (0 ∷ []))) ≡ privilegeCall (recordKind ∷ t))
+    × (exceptionsCall (segmentKind ∷ (t ++ (0 ∷ []))) ≡ exceptionsCall (recordKind ∷ t))
+
+abbrev pub OldFiles : Type 0
+OldFiles =
+    (b t bases p : List ℕ) (s : ℕ)
+    → isFile (fileKind ∷ t) ≡ true → length bases + fileBytes ≡ basedBytes
+    → visitOf b (basedKind ∷ (t ++ bases)) p s ≡ visitOf b (fileKind ∷ t) p s
+
+-- NO DIGEST. A record without one whose opcode is in the table answers what kind 0x10 answers with the digest of the table filled in.
+abbrev pub FilledIn : Type 0
+FilledIn =
+    (t f p : List ℕ) (s : ℕ)
+    → length t + 1 ≡ everydayBytes → isEveryday (opcodeIn t) ≡ true
+    → (visitOf (everydayKind ∷ t) f p s ≡ visitOf (filledIn t) f p s)
+    × (listingCall (everydayKind ∷ t) p s ≡ listingCall (filledIn t) p s)
+    × (digestCall (everydayKind ∷ t) ≡ digestCall (filledIn t))
+    × (privilegeCall (everydayKind ∷ t) ≡ privilegeCall (filledIn t))
+    × (exceptionsCall (everydayKind ∷ t) ≡ exceptionsCall (filledIn t))
+
+-- 9 is refused exactly where such a record's opcode is not in the table, and 1 and 2 are not.
+abbrev pub NineExactly : Type 0
+NineExactly =
+    (b f p : List ℕ) (s : ℕ)
+    → ((numberOf (visitOf b f p s .0) ≡ unlisted) ↔ Unlisted b)
+    × ((numberOf (listingCall b p s .0) ≡ unlisted) ↔ Unlisted b)
+    × ((digestNumber (digestCall b) ≡ unlisted) ↔ Unlisted b)
+    × ((privilegeNumber (privilegeCall b) ≡ unlisted) ↔ Unlisted b)
+    × ((infoNumber (exceptionsCall b) ≡ unlisted) ↔ Unlisted b)
 
 -- ONE OUTCOME. Any two outcomes that a call's contract allows are equal: answer, count and every byte lent. The calls over bytes:
 abbrev pub EveryCallDetermined : Type 0
@@ -191,7 +249,21 @@ BenchHolds = Visited bench
 -- What P1 to P11 do not see of visiting: the four errors that look reasonable, masks, LEA, orders, addresses, refusals and room.
 abbrev pub BeyondHolds : Type 0
 BeyondHolds =
-    Visited widening × Visited masking × Visited leas × Visited ordering × Visited addressing × Visited malformed × Visited refusing
+    Visited widening × Visited masking × Visited leas × Visited ordering × Visited addressing × Visited cutting × Visited malformed × Visited refusing
+
+-- What T-10 says of segments, kinds and bank 13.
+abbrev pub SegmentsHold : Type 0
+SegmentsHold = Visited segments × Visited refused-kinds × Table readingFrom base-readings × Table basesIn base-files
+
+-- What T-11 says of records without a digest: the table, and the order of the tests.
+abbrev pub EverydayHolds : Type 0
+EverydayHolds =
+    Table digestAt every-digest
+    × Visited everyday-logs
+    × Visited everyday-refusals
+    × Listed everyday-listings
+    × Table exceptionsFor everyday-exceptions
+    × Table privilegeFor everyday-privileges
 
 -- What the other calls and the setters answer.
 abbrev pub AnswersHold : Type 0

@@ -5,6 +5,9 @@ use mathlib.Core.List.{List, [], _∷_, _++_, map}
 use lib.ListN.{length, take, drop, replicate}
 use lib.Seq.{sets}
 use Rattle.laws.specs.Words.{numberAt, little}
+use Rattle.registers.specs.Files.{fileKind, fileBytes}
+use Rattle.record.specs.Records.{recordKind, recordBytes}
+use Rattle.definition.specs.Limits.{mostBytes}
 use Rattle.definition.specs.Visits.{visitOf}
 use Rattle.definition.specs.Listings.{listingCall}
 use Rattle.definition.specs.declared.Answer.{Answer}
@@ -25,9 +28,13 @@ put place bytes b = sets b place bytes
 abbrev pub long : ℕ → Patch
 long n b = take n b ++ replicate (n - length b) 0
 
--- a record: opcode 40, count 0, access 0x01, size 8, all else 0
+-- an opcode that no rule of a digest names
+abbrev pub plain-opcode : ℕ
+plain-opcode = 40
+
+-- a record: that opcode, count 0, access 0x01, size 8, all else 0
 abbrev pub recordWith : List Patch → List ℕ
-recordWith cs = patched (put 0 (0x10 ∷ 40 ∷ []) ∷ put 16 (8 ∷ []) ∷ put 37 (0x01 ∷ []) ∷ cs) (replicate 40 0)
+recordWith cs = patched (put 0 (recordKind ∷ plain-opcode ∷ []) ∷ put 16 (8 ∷ []) ∷ put 37 (0x01 ∷ []) ∷ cs) (replicate recordBytes 0)
 
 abbrev pub opcode : ℕ → Patch
 opcode n = put 1 (little 2 n)
@@ -69,12 +76,24 @@ access n = put 37 (n ∷ [])
 abbrev pub list : ℕ → Patch
 list n = put 38 (little 2 n)
 
+-- the same record in the kind that names a segment
+abbrev pub segment : ℕ → Patch
+segment n b = put 40 (n ∷ []) (long 41 (put 0 (0x11 ∷ []) b))
+
+-- the same record in the kind that has no digest
+abbrev pub everyday : Patch
+everyday b = long 36 (put 0 (0x12 ∷ []) b)
+
 -- a register file that knows nothing but what is said
 abbrev pub fileKnowing : List Patch → List ℕ
-fileKnowing cs = patched (put 0 (0x20 ∷ []) ∷ cs) (replicate 141 0)
+fileKnowing cs = patched (put 0 (fileKind ∷ []) ∷ cs) (replicate fileBytes 0)
 
 abbrev pub knows : ℕ → ℕ → Patch
 knows k v f = put (5 + 8 * k) (little 8 v) (put 1 (little 4 (numberAt f 1 4 + 2 ^ k)) f)
+
+-- the same file in the kind that holds bases: value 17 is that of fs, and 18 that of gs
+abbrev pub based : Patch
+based f = long 157 (put 0 (0x21 ∷ []) f)
 
 -- banks
 abbrev pub Q : ℕ
@@ -106,6 +125,10 @@ EIP = 10
 
 abbrev pub RFLAGS : ℕ
 RFLAGS = 11
+
+-- the bases of fs and gs
+abbrev pub BASES : ℕ
+BASES = 13
 
 -- specs
 abbrev pub Nothing : ℕ
@@ -143,6 +166,9 @@ Deref-rsi = 21
 
 abbrev pub Deref-edi : ℕ
 Deref-edi = 22
+
+abbrev pub Deref-esi : ℕ
+Deref-esi = 23
 
 abbrev pub Disp : ℕ
 Disp = 24
@@ -205,7 +231,7 @@ rowIn n s r f a l = record { fields = r; file = f; room = n; start = s; answer =
 
 -- room for every log, and bytes before and behind it
 abbrev pub row : List Patch → List Patch → Answer → List ℕ → Row
-row r f a l = rowIn 181 2 r f a l
+row r f a l = rowIn (mostBytes + 4) 2 r f a l
 
 abbrev pub buffer : ℕ → List ℕ
 buffer n = replicate n 0xEE

@@ -1,17 +1,23 @@
 -- What a record that is not refused keeps to, for those who call. Assumes nothing.
-use Prim.Native.Nat.{ℕ, _≤_}
+use Prim.Native.Nat.{ℕ, _<_, _≤_}
 use native.Mathlib.Omega.{arith}
 use mathlib.Core.Path.{_≡_, refl, sym, ap, _∙_}
 use mathlib.Core.List.{List, [], _∷_}
 use mathlib.Core.Bool.{Bool, true, false, not, cond, _||_, or-assoc, or-false}
 use lib.ListN.{length, getD}
 use lib.Dec.{eqb, ltb, lit≤}
-use borrow.Author.Tests.{eqb-true, ltb-false, not-false}
-use Rattle.laws.proofs.Choice.{and-left}
+use borrow.Author.Tests.{eqb-true, ltb-true, ltb-false, not-false, eq-eqb, ne-eqb, lt-ltb, le-ltb}
+use Rattle.laws.specs.Words.{numberAt}
+use Rattle.laws.specs.Tests.{firstOf}
+use Rattle.laws.proofs.Choice.{and-left, and-right}
 use Rattle.laws.proofs.Every.{Every, every-at, every-weaken, any-false, first-zero}
 use Rattle.registers.specs.Banks.{reg, isRegister}
 use Rattle.registers.specs.declared.RegSpec.{RegSpec}
-use Rattle.record.specs.Records.{isRecord, recordOf, outside, recordRefusal, recordAnswer, noRecord, specAt, regAt}
+use Rattle.digest.specs.declared.DigestAnswer.the-variants.{Done}
+use Rattle.digest.specs.Digests.{digestIn}
+use Rattle.everyday.specs.Rows.{unlisted, everydayDigest, isEveryday}
+use Rattle.everyday.proofs.Laws.{held}
+use Rattle.record.specs.Records.{recordKind, segmentKind, everydayKind, everydayBytes, recordBytes, segmentBytes, recordLength, isRecord, RecordLong, broughtDigest, recordDigest, recordOf, outside, lacksDigest, recordTests, recordRefusal, recordAnswer, noRecord, specAt, regAt}
 use Rattle.record.specs.declared.Record.{Record}
 use Rattle.record.specs.declared.RecordAnswer.{RecordAnswer}
 
@@ -37,6 +43,7 @@ pub record Inside (x : Record) : Type 0 where
   pub prefixes : x .prefixes ≤ 15
   pub mask : x .mask ≤ 7
   pub extra : x .digest .extra ≤ 28
+  pub segment : x .segment ≤ 2
 
 pub inside : (x : Record) → outside x ≡ false → Inside x
 unfolding outside
@@ -56,6 +63,7 @@ inside x e =
       prefixes = ltb-false 15 (x .prefixes) (t .1 .1 .1 .1 .0);
       mask = ltb-false 7 (x .mask) (t .1 .1 .1 .1 .1 .0);
       extra = ltb-false 28 (x .digest .extra) (t .1 .1 .1 .1 .1 .1 .0);
+      segment = ltb-false 2 (x .segment) (t .1 .1 .1 .1 .1 .1 .1 .0);
     }
 
 -- the same of operand i, past the fourth too
@@ -66,21 +74,85 @@ pub reg-inside : {x : Record} → Inside x → (i : ℕ) → isRegister (regAt x
 unfolding isRegister
 reg-inside {x} h i = every-at (λ (y : RegSpec). isRegister (y .bank) (y .number) ≡ true) (x .regs) (reg 0 0) (h .regs) refl i
 
--- a record has 40 bytes
-pub forty : (b : List ℕ) → isRecord b ≡ true → length b ≡ 40
+-- a kind's length is no less than that of the kind without a digest, and the others have one
+kind-long : (k n : ℕ) → 0 < n → n ≡ recordLength k → (everydayBytes ≤ n) × ((k ≡ everydayKind → ⊥) → recordBytes ≤ n)
+unfolding recordLength
+kind-long k n h e = by (eqb k recordKind) (eqb k segmentKind) (eqb k everydayKind) refl e
+  where
+    by :
+        (s t u : Bool) → eqb k everydayKind ≡ u → n ≡ cond s recordBytes (cond t segmentBytes (cond u everydayBytes 0))
+        → (everydayBytes ≤ n) × ((k ≡ everydayKind → ⊥) → recordBytes ≤ n)
+    by true t u q e = (omega arith, (λ ne. omega arith))
+    by false true u q e = (omega arith, (λ ne. omega arith))
+    by false false true q e = (omega arith, (λ ne. absurd (ne (eqb-true k everydayKind q))))
+    by false false false q e = absurd (omega (arith, h, e))
+
+pub record-long : (b : List ℕ) → isRecord b ≡ true → RecordLong b
 unfolding isRecord
-forty b e = eqb-true (length b) 40 (and-left (eqb (length b) 40) (eqb (getD b 0 0) 0x10) e)
+record-long b e =
+    let some = ltb 0 (length b) in
+    let long = eqb (length b) (recordLength (getD b 0 0)) in
+    kind-long (getD b 0 0) (length b) (ltb-true 0 (length b) (and-left some long e)) (eqb-true (length b) (recordLength (getD b 0 0)) (and-right some long e))
+
+-- The digest, by kind
+module _ (b : List ℕ) where
+  pub listed-digest : getD b 0 0 ≡ everydayKind → recordDigest b ≡ everydayDigest (numberAt b 1 2)
+  unfolding recordDigest
+  listed-digest e = rw (eq-eqb (getD b 0 0) everydayKind e)
+
+  pub own-digest : (getD b 0 0 ≡ everydayKind → ⊥) → recordDigest b ≡ Done (broughtDigest b)
+  unfolding recordDigest
+  own-digest ne = rw (ne-eqb (getD b 0 0) everydayKind ne)
+
+  pub listed-inside : getD b 0 0 ≡ everydayKind → false ≡ ltb 28 (recordOf b .digest .extra)
+  unfolding recordOf
+  listed-inside e = rw (listed-digest e, le-ltb 28 (digestIn (everydayDigest (numberAt b 1 2)) .extra) (held (numberAt b 1 2) .list))
+
+  pub own-list : (getD b 0 0 ≡ everydayKind → ⊥) → recordOf b .digest .extra ≡ numberAt b 38 2
+  unfolding recordOf
+  own-list ne = rw (own-digest ne)
+
+  pub listed-lacks : getD b 0 0 ≡ everydayKind → not (isEveryday (numberAt b 1 2)) ≡ lacksDigest b
+  unfolding lacksDigest isEveryday
+  listed-lacks e = rw (listed-digest e)
+
+  pub own-lacks : (getD b 0 0 ≡ everydayKind → ⊥) → false ≡ lacksDigest b
+  unfolding lacksDigest
+  own-lacks ne = rw (own-digest ne)
+
+-- The refusal, test by test
+module _ (b : List ℕ) where
+  pub refused-empty : length b ≡ 0 → 1 ≡ recordRefusal b
+  unfolding recordRefusal firstOf isRecord
+  refused-empty e = rw (le-ltb 0 (length b) (omega arith))
+
+  module _ (some : length b ≡ 0 → ⊥) {n : ℕ} (e : n ≡ recordLength (getD b 0 0)) where
+    pub refused-length : (length b ≡ n → ⊥) → 1 ≡ recordRefusal b
+    unfolding recordRefusal firstOf isRecord
+    refused-length ne = rw (lt-ltb 0 (length b) (omega (arith, some)), ne-eqb (length b) (recordLength (getD b 0 0)) (λ (q : length b ≡ recordLength (getD b 0 0)). ne (q ∙ sym e)))
+
+    module _ (long : length b ≡ n) where
+      pub has-fields : RecordLong b
+      has-fields = kind-long (getD b 0 0) (length b) (omega (arith, some)) (long ∙ e)
+
+      pub by-fields : {t u : Bool} → t ≡ outside (recordOf b) → u ≡ lacksDigest b → cond t 2 (cond u unlisted 0) ≡ recordRefusal b
+      unfolding recordRefusal firstOf isRecord
+      by-fields p q = rw (p, q, lt-ltb 0 (length b) (omega (arith, some)), eq-eqb (length b) (recordLength (getD b 0 0)) (long ∙ e))
+
+      pub refused-fields : true ≡ outside (recordOf b) → 2 ≡ recordRefusal b
+      refused-fields p = by-fields p refl
 
 -- what it is that is not refused
 pub record Passed (b : List ℕ) : Type 0 where
   pub is : isRecord b ≡ true
   pub in-tables : outside (recordOf b) ≡ false
+  pub digested : lacksDigest b ≡ false
 
 pub passed : (b : List ℕ) → recordRefusal b ≡ 0 → Passed b
 unfolding recordRefusal
 passed b e =
-    let t = first-zero ((not (isRecord b), 1) ∷ (outside (recordOf b), 2) ∷ []) (lit≤ tt, (lit≤ tt, tt)) e in
-    record { is = not-false (isRecord b) (t .0); in-tables = t .1 .0 }
+    let t = first-zero (recordTests b) (lit≤ tt, (lit≤ tt, (lit≤ tt, tt))) e in
+    record { is = not-false (isRecord b) (t .0); in-tables = t .1 .0; digested = t .1 .1 .0 }
 
 -- the answer's number is the refusal
 pub answer-number : (b : List ℕ) → recordAnswer b .number ≡ recordRefusal b

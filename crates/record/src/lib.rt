@@ -1,4 +1,4 @@
-// A record of one instruction, from its 40 bytes.
+// A record of one instruction, from its bytes.
 use digest::BehaviorDigest;
 use registers::RegSpec;
 ghost use mathlib.Core.Path.{_≡_};
@@ -7,10 +7,27 @@ ghost use Prim.Native.Nat.{_+_, _≤_, _<_};
 ghost use mathlib.Core.List.{_∷_, []};
 ghost use lib.ListN.{length, getD};
 ghost use lib.Dec.{ltb};
+ghost use Rattle.digest.specs.Digests.{digestIn};
 ghost use Rattle.laws.specs.Words.{bit};
 ghost use Rattle.laws.specs.Tests.{any};
 ghost use Rattle.registers.specs.Banks.{isRegister};
-ghost use Rattle.record.specs.Records.{regFrom, recordOf, outside, recordRefusal, refusedRecord, recordAnswer, specAt, regAt, vexW, rexW, operandSize, addressSize};
+ghost use Rattle.record.specs.Records.{everydayKind, everydayBytes, recordBytes, recordLength, RecordLong, recordDigest, regFrom, recordOf, lacksDigest, outside, recordRefusal, refusedRecord, recordAnswer, specAt, regAt, vexW, rexW, operandSize, addressSize};
+
+// The kinds of records and their lengths: the second names a segment behind what the first has, the third has no digest.
+pub const RECORD_KIND: u8 = 0x10;
+
+pub const SEGMENT_KIND: u8 = 0x11;
+
+pub const EVERYDAY_KIND: u8 = 0x12;
+
+pub const EVERYDAY_BYTES: usize = 36;
+
+pub const RECORD_BYTES: usize = EVERYDAY_BYTES + 4;
+
+pub const SEGMENT_BYTES: usize = RECORD_BYTES + 1;
+
+// What an opcode that has no digest is refused with.
+pub const UNLISTED: u8 = 9;
 
 // The fields of a record, in their order: `size` is document 01's `mem_size`.
 pub struct Record {
@@ -25,6 +42,7 @@ pub struct Record {
     pub prefixes: u8,
     pub mask: u8,
     pub digest: BehaviorDigest,
+    pub segment: u8,
 }
 
 // A record, or a refusal number and a record whose numbers are all 0.
@@ -34,7 +52,7 @@ pub struct RecordAnswer {
 }
 
 impl Record {
-    // The record in 40 bytes, or refusal 1 or 2.
+    // The record in its bytes, or refusal 1, 2 or 9.
     pub fn from_bytes(b: &[u8]) -> RecordAnswer
         ensures { λ r. ⌜ r ≡ recordAnswer (now (b .entry)) ⌝ }
     {
@@ -71,6 +89,7 @@ impl Record {
             prefixes: 0,
             mask: 0,
             digest: digest,
+            segment: 0,
         };
         RecordAnswer {
             number: number,
@@ -79,7 +98,7 @@ impl Record {
     }
 
     pub fn parse(b: &[u8]) -> Record
-        requires { ⌜ length (now b) ≡ 40 ⌝ }
+        requires { ⌜ RecordLong (now b) ⌝ }
         ensures { λ r. ⌜ r ≡ recordOf (now (b .entry)) ⌝ }
     {
         let specs = [b[4], b[5], b[6], b[7]];
@@ -89,11 +108,6 @@ impl Record {
             reg_from(b, 12),
             reg_from(b, 14),
         ];
-        let digest = BehaviorDigest {
-            behavior: b[36],
-            operands: b[37],
-            extra: laws::u16_at(b, 38),
-        };
         Record {
             opcode: laws::u16_at(b, 1),
             count: b[3],
@@ -105,7 +119,8 @@ impl Record {
             imm: laws::u64_at(b, 26),
             prefixes: b[34],
             mask: b[35],
-            digest: digest,
+            digest: digest_in(b),
+            segment: segment_in(b),
         }
     }
 
@@ -160,18 +175,38 @@ impl Record {
     }
 }
 
-// The refusal of a record's bytes: 1 or 2, or 0.
+// The length of a record by its kind, 0 for no kind.
+pub fn length_of(kind: u8) -> usize
+    ensures { λ r. ⌜ r ≡ recordLength kind ⌝ }
+{
+    if kind == RECORD_KIND {
+        return RECORD_BYTES;
+    }
+    if kind == SEGMENT_KIND {
+        return SEGMENT_BYTES;
+    }
+    if kind == EVERYDAY_KIND {
+        EVERYDAY_BYTES
+    } else {
+        0
+    }
+}
+
+// The refusal of a record's bytes: 1, 2 or 9, or 0.
 pub fn refusal_of(b: &[u8]) -> u8
     ensures { λ r. ⌜ r ≡ recordRefusal (now (b .entry)) ⌝ }
 {
-    if b.len() != 40 {
+    if b.len() == 0 {
         return 1;
     }
-    if b[0] != 0x10 {
+    if b.len() != length_of(b[0]) {
         return 1;
     }
     if is_outside(b) {
         return 2;
+    }
+    if lacks_digest(b) {
+        return UNLISTED;
     }
     0
 }
@@ -195,6 +230,39 @@ fn has_bit(v: u8, k: u8) -> bool
     (v >> k) % 2 == 1
 }
 
+// The digest that the bytes bring, or that of the opcode in the kind that brings none.
+fn digest_in(b: &[u8]) -> BehaviorDigest
+    requires { ⌜ RecordLong (now b) ⌝ }
+    ensures { λ r. ⌜ r ≡ digestIn (recordDigest (now (b .entry))) ⌝ }
+{
+    if b[0] == EVERYDAY_KIND {
+        return everyday::everyday_digest(laws::u16_at(b, 1));
+    }
+    BehaviorDigest {
+        behavior: b[36],
+        operands: b[37],
+        extra: laws::u16_at(b, 38),
+    }
+}
+
+fn lacks_digest(b: &[u8]) -> bool
+    requires { ⌜ everydayBytes ≤ length (now b) ⌝ }
+    ensures { λ r. ⌜ r ≡ lacksDigest (now (b .entry)) ⌝ }
+{
+    b[0] == EVERYDAY_KIND && !everyday::is_everyday(laws::u16_at(b, 1))
+}
+
+// The segment, none in a kind that has no byte for it.
+fn segment_in(b: &[u8]) -> u8
+    ensures { λ r. ⌜ r ≡ getD (now (b .entry)) recordBytes 0 ⌝ }
+{
+    if RECORD_BYTES < b.len() {
+        b[RECORD_BYTES]
+    } else {
+        0
+    }
+}
+
 fn reg_from(b: &[u8], i: usize) -> RegSpec
     requires { ⌜ i + 2 ≤ length (now b) ⌝ }
     ensures { λ r. ⌜ r ≡ regFrom (now (b .entry)) i ⌝ }
@@ -207,7 +275,7 @@ fn reg_from(b: &[u8], i: usize) -> RegSpec
 
 // Whether some number of a record is outside its table. All tests are made, so that no branch is taken between them.
 fn is_outside(b: &[u8]) -> bool
-    requires { ⌜ length (now b) ≡ 40 ⌝ }
+    requires { ⌜ RecordLong (now b) ⌝ }
     ensures { λ r. ⌜ r ≡ outside (recordOf (now (b .entry))) ⌝ }
 {
     (4 < b[3])
@@ -216,18 +284,27 @@ fn is_outside(b: &[u8]) -> bool
         | (64 < b[16])
         | (15 < b[34])
         | (7 < b[35])
-        | (28 < laws::u16_at(b, 38))
+        | has_bad_list(b)
+        | (2 < segment_in(b))
+}
+
+// A list that the bytes bring: those of the opcodes are all inside.
+fn has_bad_list(b: &[u8]) -> bool
+    requires { ⌜ RecordLong (now b) ⌝ }
+    ensures { λ r. ⌜ r ≡ ltb 28 (recordOf (now (b .entry)) .digest .extra) ⌝ }
+{
+    b[0] != EVERYDAY_KIND && 28 < laws::u16_at(b, 38)
 }
 
 fn has_bad_spec(b: &[u8]) -> bool
-    requires { ⌜ length (now b) ≡ 40 ⌝ }
+    requires { ⌜ everydayBytes ≤ length (now b) ⌝ }
     ensures { λ r. ⌜ r ≡ any (λ s. ltb 35 s) (recordOf (now (b .entry)) .specs) ⌝ }
 {
     (35 < b[4]) | (35 < b[5]) | (35 < b[6]) | (35 < b[7])
 }
 
 fn has_bad_reg(b: &[u8]) -> bool
-    requires { ⌜ length (now b) ≡ 40 ⌝ }
+    requires { ⌜ everydayBytes ≤ length (now b) ⌝ }
     ensures { λ r. ⌜ r ≡ any (λ y. not (isRegister (y .bank) (y .number))) (recordOf (now (b .entry)) .regs) ⌝ }
 {
     is_bad(b[8], b[9]) | is_bad(b[10], b[11]) | is_bad(b[12], b[13]) | is_bad(b[14], b[15])

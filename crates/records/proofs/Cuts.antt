@@ -11,6 +11,7 @@ use lib.Seq.{drop-drop}
 use borrow.Author.Tests.{eqb-true, not-false, ltb-false}
 use Rattle.laws.specs.Tests.{any, isIn, firstOf}
 use Rattle.laws.proofs.Every.{first-zero}
+use Rattle.record.specs.Records.{everydayBytes, recordBytes, segmentBytes}
 use Rattle.records.specs.Lists.{recordLengths, mostRecords, listRefusal, cut, recordsIn}
 
 -- what a list keeps to that is not refused
@@ -21,11 +22,15 @@ pub record Listed (n each : ℕ) : Type 0 where
 
 pub one-of-lengths : (each : ℕ) → isIn each recordLengths ≡ true → 0 < each
 unfolding isIn any
-one-of-lengths each e = by (eqb each 40) refl e
+one-of-lengths each e = by (eqb each everydayBytes) (eqb each recordBytes) (eqb each segmentBytes) refl refl refl e
   where
-    by : (t : Bool) → eqb each 40 ≡ t → (t || false) ≡ true → 0 < each
-    by true h e = omega (arith, eqb-true each 40 h)
-    by false h e = absurd (let z : _≡_ {A = ℕ} 0 1 = cc in omega arith)
+    by :
+        (s t u : Bool) → eqb each everydayBytes ≡ s → eqb each recordBytes ≡ t → eqb each segmentBytes ≡ u → (s || (t || (u || false))) ≡ true
+        → 0 < each
+    by true t u f g h e = omega (arith, eqb-true each everydayBytes f)
+    by false true u f g h e = omega (arith, eqb-true each recordBytes g)
+    by false false true f g h e = omega (arith, eqb-true each segmentBytes h)
+    by false false false f g h e = absurd (let z : _≡_ {A = ℕ} 0 1 = cc in omega arith)
 
 pub listed : (n each : ℕ) → listRefusal n each ≡ 0 → Listed n each
 unfolding listRefusal

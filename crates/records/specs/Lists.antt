@@ -5,10 +5,11 @@ use mathlib.Core.Bool.{not}
 use lib.ListN.{length, take, drop}
 use lib.Dec.{ltb, eqb}
 use Rattle.laws.specs.Tests.{isIn, firstOf}
+use Rattle.record.specs.Records.{everydayBytes, recordBytes, segmentBytes}
 
 -- how long a record can be
 abbrev pub recordLengths : List ℕ
-recordLengths = 40 ∷ []
+recordLengths = everydayBytes ∷ recordBytes ∷ segmentBytes ∷ []
 
 -- no list has more records
 abbrev pub mostRecords : ℕ

@@ -10,7 +10,13 @@ pub const MOST_RECORDS: usize = 1000;
 fn is_length(each: usize) -> bool
     ensures { λ r. ⌜ r ≡ isIn each recordLengths ⌝ }
 {
-    each == 40
+    if each == record::EVERYDAY_BYTES {
+        return true;
+    }
+    if each == record::RECORD_BYTES {
+        return true;
+    }
+    each == record::SEGMENT_BYTES
 }
 
 // How a list of so many bytes is refused, whose records have `each`: 1 or 2, and 0 where it is not.

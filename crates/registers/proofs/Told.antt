@@ -1,5 +1,5 @@
 -- What a file tells of a register, found in parts, is what it answers of it. Assumes nothing.
-use Prim.Native.Nat.{ℕ, _-_, _/_, _%_, _^_, _<_, _≤_, zero-le}
+use Prim.Native.Nat.{ℕ, _+_, _-_, _/_, _%_, _^_, _<_, _≤_, zero-le}
 use native.Mathlib.Nat.{div-one, mod-eq-of-lt}
 use native.Mathlib.Omega.{arith}
 use mathlib.Core.Path.{_≡_, refl, sym, ap, _∙_}
@@ -10,8 +10,8 @@ use lib.ListN.{getD, List·getD-eq-default}
 use borrow.Author.Tests.{lt-ltb, le-ltb, ne-eqb, ltb-true, ltb-false}
 use Rattle.laws.proofs.Span.{span}
 use Rattle.laws.specs.Words.{bit}
-use Rattle.registers.specs.Banks.{reg, bankNumbers, isRegister}
-use Rattle.registers.specs.Files.{Part, part, nowhere, bankParts, partOf, slotOf, after, partValue, valueOf}
+use Rattle.registers.specs.Banks.{reg, loggedNumbers, isLogged}
+use Rattle.registers.specs.Files.{plainSlots, fileSlots, Part, part, nowhere, bankParts, partOf, slotOf, after, partValue, valueOf}
 use Rattle.registers.specs.Told.{toldNumbers, isTold, toldSlot, toldByte, toldPart}
 use Rattle.registers.proofs.Parts.{whole-part}
 use Rattle.registers.specs.declared.RegSpec.{RegSpec}
@@ -22,10 +22,10 @@ use Rattle.registers.specs.declared.Value.the-variants.{Known, Unknown}
 -- a part of a slot that the file has
 module _ (f : RegisterFile) where
   pub slot-part :
-      (k below bits v : ℕ) → k < 17 → v ≡ getD (f .values) k 0 / 2 ^ below % 2 ^ bits
+      (k below bits v : ℕ) → k < fileSlots → v ≡ getD (f .values) k 0 / 2 ^ below % 2 ^ bits
       → partValue f (part k below bits) ≡ cond (bit (f .known) k) (Known v) Unknown
   unfolding partValue slotOf
-  slot-part k below bits v h e = rw (lt-ltb k 17 h) (by (bit (f .known) k))
+  slot-part k below bits v h e = rw (lt-ltb k fileSlots h) (by (bit (f .known) k))
     where
       by : (t : Bool) → after (cond t (Known (getD (f .values) k 0)) Unknown) (λ w. Known (w / 2 ^ below % 2 ^ bits)) ≡ cond t (Known v) Unknown
       by true = ap Known (sym e)
@@ -37,7 +37,7 @@ module _ (f : RegisterFile) where
 
   -- a bank of which a file tells the first m registers, each a part of its own slot
   told-bank :
-      (n m k below bits v : ℕ) → (n < m → (k < 17) × (v ≡ getD (f .values) k 0 / 2 ^ below % 2 ^ bits)) → (p : Part) → (n < m → p ≡ part k below bits)
+      (n m k below bits v : ℕ) → (n < m → (k < fileSlots) × (v ≡ getD (f .values) k 0 / 2 ^ below % 2 ^ bits)) → (p : Part) → (n < m → p ≡ part k below bits)
       → partValue f (cond (ltb n m) p nowhere) ≡ cond (ltb n m && bit (f .known) k) (Known v) Unknown
   told-bank n m k below bits v h p q = by (ltb n m) refl
     where
@@ -69,6 +69,17 @@ module _ (f : RegisterFile) where
       (part 16 0 bits)
       (λ (l : n < 1). refl)
 
+  -- the bases of fs and gs
+  segment-bank :
+      (n bits : ℕ)
+      → partValue f (cond (ltb n 2) (part (plainSlots + n) 0 bits) nowhere)
+      ≡ cond (ltb n 2 && bit (f .known) (plainSlots + n % 2)) (Known (getD (f .values) (plainSlots + n % 2) 0 % 2 ^ bits)) Unknown
+  segment-bank n bits =
+      told-bank n 2 (plainSlots + n % 2) 0 bits (getD (f .values) (plainSlots + n % 2) 0 % 2 ^ bits)
+      (λ (l : n < 2). (omega arith, rw (div-one (getD (f .values) (plainSlots + n % 2) 0))))
+      (part (plainSlots + n) 0 bits)
+      (λ (l : n < 2). rw (mod-eq-of-lt l))
+
   byte-bank :
       (n : ℕ)
       → partValue f (cond (ltb n 8) (part (cond (ltb n 4) n (n - 4)) (cond (ltb n 4) 0 8) 8) nowhere)
@@ -99,7 +110,7 @@ module _ (f : RegisterFile) where
   abbrev Tells : ℕ → Type 0
   Tells b =
       (n : ℕ) → getD (f .values) (toldSlot (reg b n)) 0 < 2 ^ 64
-      → partValue f (cond (ltb n (getD bankNumbers b 0)) (getD (bankParts n) b nowhere) nowhere)
+      → partValue f (cond (ltb n (getD loggedNumbers b 0)) (getD (bankParts n) b nowhere) nowhere)
       ≡ cond (isTold (reg b n) && bit (f .known) (toldSlot (reg b n))) (Known (toldPart (reg b n) (getD (f .values) (toldSlot (reg b n)) 0))) Unknown
 
   tells-whole : Tells 0
@@ -110,10 +121,14 @@ module _ (f : RegisterFile) where
   unfolding isTold toldNumbers toldSlot toldPart
   tells-pointer n h = rw (mod-eq-of-lt h) at (pointer-bank n 64)
 
-  tells : (b : ℕ) → b < 11 → Tells b
+  tells-base : Tells 13
+  unfolding isTold toldNumbers toldSlot toldPart
+  tells-base n h = rw (mod-eq-of-lt h) at (segment-bank n 64)
+
+  tells : (b : ℕ) → b < 14 → Tells b
   unfolding isTold toldNumbers toldSlot toldPart
   tells b h =
-      span Tells 0 11 (
+      span Tells 0 14 (
         tells-whole,
         (
           (λ n h. bottom-bank n 16 32 (lit≤ tt)),
@@ -135,7 +150,16 @@ module _ (f : RegisterFile) where
                           tells-pointer,
                           (
                             (λ n h. pointer-bank n 32),
-                            tt,
+                            (
+                              (λ n h. untold n (ltb n 1) _ _),
+                              (
+                                (λ n h. untold n (ltb n 32) _ _),
+                                (
+                                  tells-base,
+                                  tt,
+                                ),
+                              ),
+                            ),
                           ),
                         ),
                       ),
@@ -149,19 +173,19 @@ module _ (f : RegisterFile) where
       )
       b zero-le h
 
-  tells-none : (b : ℕ) → 11 ≤ b → Tells b
+  tells-none : (b : ℕ) → 14 ≤ b → Tells b
   unfolding isTold toldNumbers
   tells-none b h n w =
-      rw (List·getD-eq-default (bankParts n) nowhere {n = b} h, le-ltb b 4 (omega arith), ne-eqb b 4 (λ (e : b ≡ 4). omega arith), ne-eqb b 9 (λ (e : b ≡ 9). omega arith), ne-eqb b 10 (λ (e : b ≡ 10). omega arith))
-      (untold n (ltb n (getD bankNumbers b 0)) _ _)
+      rw (List·getD-eq-default (bankParts n) nowhere {n = b} h, le-ltb b 4 (omega arith), ne-eqb b 4 (λ (e : b ≡ 4). omega arith), ne-eqb b 9 (λ (e : b ≡ 9). omega arith), ne-eqb b 10 (λ (e : b ≡ 10). omega arith), ne-eqb b 13 (λ (e : b ≡ 13). omega arith))
+      (untold n (ltb n (getD loggedNumbers b 0)) _ _)
 
   -- a general register, whole
   pub whole-told : (n : ℕ) {s : Bool} {v : ℕ} → n < 16 → s ≡ bit (f .known) n → v ≡ getD (f .values) n 0 → v < 2 ^ 64 → cond s (Known v) Unknown ≡ valueOf f (reg 0 n)
-  unfolding valueOf partOf isRegister
+  unfolding valueOf partOf isLogged
   whole-told n {s} {v} h e w k = rw (lt-ltb n 16 h, e) (sym (slot-part n 0 64 v (omega arith) (rw (← w) (whole-part 64 v k))))
 
   pub whole-untold : (n : ℕ) → 16 ≤ n → Unknown ≡ valueOf f (reg 0 n)
-  unfolding valueOf partOf isRegister
+  unfolding valueOf partOf isLogged
   whole-untold n h = rw (le-ltb n 16 h) (sym no-part)
 
   -- what is found of a register in parts is what the file answers of it
@@ -169,14 +193,14 @@ module _ (f : RegisterFile) where
       (x : RegSpec) {k v : ℕ} {t s : Bool}
       → k ≡ toldSlot x → v ≡ toldPart x (getD (f .values) k 0) → t ≡ isTold x → s ≡ bit (f .known) k → getD (f .values) k 0 < 2 ^ 64
       → cond (t && s) (Known v) Unknown ≡ valueOf f x
-  unfolding valueOf partOf isRegister
+  unfolding valueOf partOf isLogged
   told x p q r u h = rw (q, r, u, p) (sym (by (x .bank) (x .number) (rw p at h)))
     where
       by : (b n : ℕ) → getD (f .values) (toldSlot (reg b n)) 0 < 2 ^ 64
-          → partValue f (cond (ltb n (getD bankNumbers b 0)) (getD (bankParts n) b nowhere) nowhere)
+          → partValue f (cond (ltb n (getD loggedNumbers b 0)) (getD (bankParts n) b nowhere) nowhere)
           ≡ cond (isTold (reg b n) && bit (f .known) (toldSlot (reg b n))) (Known (toldPart (reg b n) (getD (f .values) (toldSlot (reg b n)) 0))) Unknown
-      by b n h = within (ltb b 11) refl
+      by b n h = within (ltb b 14) refl
         where
-          within : (t : Bool) → ltb b 11 ≡ t → partValue f (cond (ltb n (getD bankNumbers b 0)) (getD (bankParts n) b nowhere) nowhere) ≡ cond (isTold (reg b n) && bit (f .known) (toldSlot (reg b n))) (Known (toldPart (reg b n) (getD (f .values) (toldSlot (reg b n)) 0))) Unknown
-          within true e = tells b (ltb-true b 11 e) n h
-          within false e = tells-none b (ltb-false b 11 e) n h
+          within : (t : Bool) → ltb b 14 ≡ t → partValue f (cond (ltb n (getD loggedNumbers b 0)) (getD (bankParts n) b nowhere) nowhere) ≡ cond (isTold (reg b n) && bit (f .known) (toldSlot (reg b n))) (Known (toldPart (reg b n) (getD (f .values) (toldSlot (reg b n)) 0))) Unknown
+          within true e = tells b (ltb-true b 14 e) n h
+          within false e = tells-none b (ltb-false b 14 e) n h

@@ -14,8 +14,8 @@ use borrow.Author.Tests.{eqb-true}
 use Rattle.laws.specs.Words.{bit}
 use Rattle.laws.proofs.Every.{Every, every-at, at}
 use Rattle.laws.proofs.Numbers.{number-below}
-use Rattle.registers.specs.Banks.{bankWidths, widthOf, isRegister}
-use Rattle.registers.specs.Files.{Part, nowhere, bankParts, partOf, slotOf, after, partValue, valueOf, numbersFrom, fileOf}
+use Rattle.registers.specs.Banks.{bankWidths, widthOf, isLogged}
+use Rattle.registers.specs.Files.{fileSlots, Part, nowhere, bankParts, partOf, slotOf, after, partValue, valueOf, numbersFrom, fileOf}
 use Rattle.registers.proofs.Parts.{inner}
 use Rattle.registers.specs.declared.RegSpec.{RegSpec}
 use Rattle.registers.specs.declared.RegisterFile.{RegisterFile}
@@ -34,7 +34,7 @@ below-le h Unknown b = tt
 -- Every value of a file that is read is one of its values
 pub slot-below : (f : RegisterFile) (n : ℕ) → 0 < n → Every (λ (v : ℕ). v < n) (f .values) → (k : ℕ) → Below n (slotOf f k)
 unfolding slotOf
-slot-below f n pos h k = by (ltb k 17 && bit (f .known) k)
+slot-below f n pos h k = by (ltb k fileSlots && bit (f .known) k)
   where
     by : (t : Bool) → Below n (cond t (Known (getD (f .values) k 0)) Unknown)
     by true = every-at (λ (v : ℕ). v < n) (f .values) 0 h pos k
@@ -48,7 +48,7 @@ numbers-below b h i (suc n) = (number-below b h i 8, numbers-below b h (i + 8) n
 -- a file from bytes holds words
 pub file-words : (b : List ℕ) → ((k : ℕ) → getD b k 0 < 256) → Every (λ (v : ℕ). v < 2 ^ 64) (fileOf b .values)
 unfolding fileOf
-file-words b h = numbers-below b h 5 17
+file-words b h = numbers-below b h 5 fileSlots
 
 -- a part has no more than its bits
 pub part-below : (f : RegisterFile) (p : Part) → Below (2 ^ (p .bits)) (partValue f p)
@@ -61,20 +61,20 @@ part-below f p = by (slotOf f (p .slot))
 
 -- a part of a bank's table has as many bits as the bank is wide, or lies nowhere
 fits : ℕ → Part → Bool
-fits bank p = eqb (p .bits) (8 * getD bankWidths bank 0) || eqb (p .slot) 17
+fits bank p = eqb (p .bits) (8 * getD bankWidths bank 0) || eqb (p .slot) fileSlots
 
 fitting : (f : RegisterFile) (bank : ℕ) (p : Part) → fits bank p ≡ true → Below (2 ^ (8 * getD bankWidths bank 0)) (partValue f p)
 unfolding fits partValue slotOf
 fitting f bank p h = by (eqb (p .bits) (8 * getD bankWidths bank 0)) refl h
   where
-    by : (t : Bool) → eqb (p .bits) (8 * getD bankWidths bank 0) ≡ t → (t || eqb (p .slot) 17) ≡ true → Below (2 ^ (8 * getD bankWidths bank 0)) (partValue f p)
+    by : (t : Bool) → eqb (p .bits) (8 * getD bankWidths bank 0) ≡ t → (t || eqb (p .slot) fileSlots) ≡ true → Below (2 ^ (8 * getD bankWidths bank 0)) (partValue f p)
     by true e h = rw (← eqb-true (p .bits) (8 * getD bankWidths bank 0) e) (part-below f p)
-    by false e h = rw (eqb-true (p .slot) 17 h) tt
+    by false e h = rw (eqb-true (p .slot) fileSlots h) tt
 
 -- a value has no more bytes than its register
 pub value-below : (f : RegisterFile) (x : RegSpec) → Below (2 ^ (8 * widthOf x)) (valueOf f x)
 unfolding valueOf partOf widthOf fits
-value-below f x = by (isRegister (x .bank) (x .number))
+value-below f x = by (isLogged (x .bank) (x .number))
   where
     p : Part
     p = getD (bankParts (x .number)) (x .bank) nowhere
@@ -86,7 +86,7 @@ value-below f x = by (isRegister (x .bank) (x .number))
 -- what is known of a register is a word
 pub value-word : (f : RegisterFile) (x : RegSpec) → Below (2 ^ 64) (valueOf f x)
 unfolding valueOf partOf
-value-word f x = by (isRegister (x .bank) (x .number))
+value-word f x = by (isLogged (x .bank) (x .number))
   where
     p : Part
     p = getD (bankParts (x .number)) (x .bank) nowhere

@@ -1,13 +1,38 @@
 // Registers by bank and number, and the register file that says what is known of them.
 ghost use mathlib.Core.Path.{_≡_};
 ghost use mathlib.Core.Bool.{cond};
-ghost use Prim.Native.Nat.{_<_, _^_};
+ghost use Prim.Native.Nat.{_+_, _<_, _≤_, _^_};
 ghost use lib.ListN.{length, getD};
-ghost use Rattle.laws.specs.Words.{bit};
-ghost use Rattle.registers.specs.Banks.{reg, bankNumbers, isRegister, isLogged, widthOf};
-ghost use Rattle.registers.specs.Files.{fileWith, fileOf, refusedFile, fileAnswer, valueOf};
+ghost use Rattle.laws.specs.Words.{numberAt, bit};
+ghost use Rattle.registers.specs.Banks.{reg, bankNumbers, loggedNumbers, isRegister, isLogged, widthOf};
+ghost use Rattle.registers.specs.Files.{fileBytes, fileSlots, fileValues, fileLength, fileWith, fileOf, FileLong, refusedFile, fileAnswer, valueOf};
 ghost use Rattle.registers.specs.declared.Value.the-variants.{Known, Unknown};
 ghost use Rattle.registers.specs.Told.{fileRefusal, twoValues, isTold, toldNumbers, toldSlot, toldPart, toldByte};
+
+// How many values a file holds, and its length by its kind: the kind, four bytes of known bits, then the values. The plain kind holds
+// the general registers and rip; the other holds the bases of fs and gs behind them.
+pub const FILE_KIND: u8 = 0x20;
+
+pub const BASED_KIND: u8 = 0x21;
+
+pub const PLAIN_SLOTS: usize = 17;
+
+pub const FILE_SLOTS: usize = 19;
+
+pub const FILE_BYTES: usize = 5 + 8 * PLAIN_SLOTS;
+
+pub const BASED_BYTES: usize = 5 + 8 * FILE_SLOTS;
+
+// The bases of fs and gs.
+pub const FS: RegSpec = RegSpec {
+    bank: 13,
+    number: 0,
+};
+
+pub const GS: RegSpec = RegSpec {
+    bank: 13,
+    number: 1,
+};
 
 // A register: its bank, and its number there.
 pub struct RegSpec {
@@ -27,9 +52,9 @@ pub struct TwoValues {
     pub index: Value,
 }
 
-// The sixteen general registers and rip, and a bit for each that is known.
+// The sixteen general registers, rip, and the bases of fs and gs, and a bit for each that is known.
 pub struct RegisterFile {
-    pub values: [u64; 17],
+    pub values: [u64; FILE_SLOTS],
     pub known: u32,
 }
 
@@ -47,11 +72,11 @@ impl RegSpec {
         number < bank_numbers(bank)
     }
 
-    // What an event may name: a test of its own, over the same banks today.
+    // What an event may name: the bases of fs and gs too.
     pub fn is_logged(bank: u8, number: u8) -> bool
         ensures { λ r. ⌜ r ≡ isLogged bank number ⌝ }
     {
-        number < bank_numbers(bank)
+        number < logged_numbers(bank)
     }
 
     // How many bytes it has.
@@ -73,6 +98,7 @@ impl RegSpec {
             10 => 4,
             11 => 8,
             12 => 8,
+            13 => 8,
             _ => 0,
         }
     }
@@ -101,8 +127,14 @@ fn bank_numbers(bank: u8) -> u8
     }
 }
 
+fn logged_numbers(bank: u8) -> u8
+    ensures { λ r. ⌜ r ≡ getD loggedNumbers bank 0 ⌝ }
+{
+    if bank == 13 { 2 } else { bank_numbers(bank) }
+}
+
 impl RegisterFile {
-    // The file in 141 bytes, or refusal 3.
+    // The file in its bytes, or refusal 3.
     pub fn from_bytes(b: &[u8]) -> FileAnswer
         ensures { λ r. ⌜ r ≡ fileAnswer (now (b .entry)) ⌝ }
     {
@@ -120,7 +152,7 @@ impl RegisterFile {
         ensures { λ r. ⌜ r ≡ refusedFile ⌝ }
     {
         let file = RegisterFile {
-            values: [0; 17],
+            values: [0; FILE_SLOTS],
             known: 0,
         };
         FileAnswer {
@@ -130,10 +162,11 @@ impl RegisterFile {
     }
 
     pub fn parse(b: &[u8]) -> RegisterFile
-        requires { ⌜ length (now b) ≡ 141 ⌝ }
+        requires { ⌜ (fileBytes ≤ length (now b)) × FileLong (now b) ⌝ }
         ensures { λ r. ⌜ r ≡ fileOf (now (b .entry)) ⌝ }
     {
         let known = laws::u32_at(b, 1);
+        let bases = bases_in(b);
         let values = [
             laws::u64_at(b, 5),
             laws::u64_at(b, 13),
@@ -152,6 +185,8 @@ impl RegisterFile {
             laws::u64_at(b, 117),
             laws::u64_at(b, 125),
             laws::u64_at(b, 133),
+            bases.fs,
+            bases.gs,
         ];
         RegisterFile {
             values: values,
@@ -159,7 +194,7 @@ impl RegisterFile {
         }
     }
 
-    // What is known of a register: a part of one of the seventeen. One that the table has not is unknown.
+    // What is known of a register: a part of one of its values. One that the table has not is unknown.
     pub fn value(self, x: RegSpec) -> Value
         ensures { λ r. ⌜ r ≡ valueOf self x ⌝ }
     {
@@ -177,22 +212,69 @@ impl RegisterFile {
     }
 }
 
+// The values of fs and gs in a file's bytes: 0 in a kind that has none.
+struct Bases {
+    fs: u64,
+    gs: u64,
+}
+
+fn bases_in(b: &[u8]) -> Bases
+    requires { ⌜ FileLong (now b) ⌝ }
+    ensures { λ r. ⌜ (r .fs ≡ numberAt (now (b .entry)) fileBytes 8) × (r .gs ≡ numberAt (now (b .entry)) (fileBytes + 8) 8) ⌝ }
+{
+    if b.len() == BASED_BYTES {
+        return Bases {
+            fs: laws::u64_at(b, FILE_BYTES),
+            gs: laws::u64_at(b, FILE_BYTES + 8),
+        };
+    }
+    Bases { fs: 0, gs: 0 }
+}
+
+// The length of a file by its kind, 0 for no kind.
+pub fn length_of(kind: u8) -> usize
+    ensures { λ r. ⌜ r ≡ fileLength kind ⌝ }
+{
+    if kind == FILE_KIND {
+        return FILE_BYTES;
+    }
+    if kind == BASED_KIND { BASED_BYTES } else { 0 }
+}
+
+const PLAIN_END: u32 = 1 << PLAIN_SLOTS;
+
+const BASED_END: u32 = 1 << FILE_SLOTS;
+
+// The first number that is no known bits of a file of a kind.
+fn known_end(kind: u8) -> u32
+    ensures { λ r. ⌜ r ≡ 2 ^ fileValues kind ⌝ }
+{
+    if kind == FILE_KIND {
+        return PLAIN_END;
+    }
+    if kind == BASED_KIND { BASED_END } else { 1 }
+}
+
 // Refusal 3 of a file's bytes, or 0.
 pub fn refusal_of(b: &[u8]) -> u8
     ensures { λ r. ⌜ r ≡ fileRefusal (now (b .entry)) ⌝ }
 {
-    if b.len() != 141 {
+    if b.len() == 0 {
         return 3;
     }
-    if b[0] != 0x20 {
+    if b.len() != length_of(b[0]) {
         return 3;
     }
-    if laws::u32_at(b, 1) < 131072 { 0 } else { 3 }
+    if laws::u32_at(b, 1) < known_end(b[0]) {
+        0
+    } else {
+        3
+    }
 }
 
 // An element of a lent array is read where it stands, and that of a file by value once the whole file is copied. Most registers are
 // whole; what a file tells of the others is found without a jump on the bank.
-fn value_in(values: &[u64; 17], known: u32, x: RegSpec) -> Value
+fn value_in(values: &[u64; FILE_SLOTS], known: u32, x: RegSpec) -> Value
     ensures { λ r. ⌜ r ≡ valueOf (fileWith (now (values .entry)) known) x ⌝ }
 {
     if x.bank == 0 {
@@ -207,7 +289,7 @@ fn value_in(values: &[u64; 17], known: u32, x: RegSpec) -> Value
 }
 
 // A general register.
-fn whole(values: &[u64; 17], known: u32, number: u8) -> Value
+fn whole(values: &[u64; FILE_SLOTS], known: u32, number: u8) -> Value
     ensures { λ r. ⌜ r ≡ valueOf (fileWith (now (values .entry)) known) (reg 0 number) ⌝ }
 {
     let i = number as usize;
@@ -230,13 +312,13 @@ fn known_if(set: bool, word: u64) -> Value
 }
 
 fn is_set(known: u32, k: u8) -> bool
-    requires { ⌜ k < 17 ⌝ }
+    requires { ⌜ k < fileSlots ⌝ }
     ensures { λ r. ⌜ r ≡ bit known k ⌝ }
 {
     (known >> k) % 2 == 1
 }
 
-// Whether a file tells of it: general registers and their parts, RIP and EIP.
+// Whether a file tells of it: general registers and their parts, RIP and EIP, the bases of fs and gs.
 fn is_told(x: RegSpec) -> bool
     ensures { λ r. ⌜ r ≡ isTold x ⌝ }
 {
@@ -255,13 +337,19 @@ fn told_numbers(bank: u8) -> u8
     if bank == 9 {
         return 1;
     }
-    if bank == 10 { 1 } else { 0 }
+    if bank == 10 {
+        return 1;
+    }
+    if bank == 13 { 2 } else { 0 }
 }
 
-// Which of the seventeen it is a part of, where a file tells of it.
+// Which of a file's values it is a part of, where a file tells of it.
 fn slot_of(x: RegSpec) -> u8
-    ensures { λ r. ⌜ (r ≡ toldSlot x) × (r < 17) ⌝ }
+    ensures { λ r. ⌜ (r ≡ toldSlot x) × (r < fileSlots) ⌝ }
 {
+    if x.bank == 13 {
+        return 17 + x.number % 2;
+    }
     if 4 < x.bank {
         return 16;
     }

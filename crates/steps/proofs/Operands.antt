@@ -27,7 +27,7 @@ use Rattle.definition.specs.Logs.{stepEvents, eventsOf, eventBytes}
 use Rattle.definition.specs.declared.Event.{Event}
 use Rattle.address.specs.Places.{sourcesOf}
 use Rattle.address.specs.declared.places.Sources.{Sources}
-use Rattle.steps.specs.Parts.{partEvents, wayOf, partAt, partsFrom, partCount, explicitEvents}
+use Rattle.steps.specs.Parts.{basedEvents, wayOf, partAt, partsFrom, partCount, explicitEvents}
 use Rattle.steps.proofs.Specs.{partSteps, part-is}
 
 -- the next part, and those after it

@@ -6,6 +6,7 @@ use address::sign_extended;
 use address::sum;
 use implicit::Way;
 use moves::fourth_of;
+use moves::is_stopped;
 use moves::names::EDI;
 use moves::names::ESI;
 use moves::names::RDI;
@@ -15,6 +16,7 @@ use moves::put_deref;
 use moves::put_indexed;
 use moves::put_masked;
 use moves::put_plain;
+use moves::put_segment;
 use record::Record;
 use registers::Value;
 ghost use mathlib.Core.Path.{_≡_};
@@ -23,12 +25,12 @@ ghost use Rattle.laws.specs.Words.{bit};
 ghost use lib.ListN.{length};
 ghost use Rattle.laws.specs.Lending.{size, Logged};
 ghost use Rattle.definition.specs.Logs.{eventBytes};
-ghost use Rattle.steps.specs.Parts.{partEvents, wayOf, partAt, partCount, explicitEvents};
+ghost use Rattle.steps.specs.Parts.{partEvents, takesBase, partSegment, addedBy, basedEvents, wayOf, partAt, partCount, explicitEvents};
 
-// One part of an operand, by its spec: Nothing and immediates log nothing.
-fn put_part(log: &mut [u8], x: Record, spec: u8, way: Way, at: Sources) -> usize
-    requires { ⌜ size eventBytes (partEvents x way at spec) ≤ length (now log) ⌝ }
-    ensures { λ r. ⌜ Logged eventBytes (partEvents x way at spec) (now (log .entry)) (now (log .exit)) r ⌝ }
+// One part of an operand, by its spec: Nothing and immediates log nothing. The base of its segment is what is added to its address.
+fn put_part(log: &mut [u8], x: Record, spec: u8, way: Way, at: Sources, added: Value) -> usize
+    requires { ⌜ size eventBytes (partEvents x way at added spec) ≤ length (now log) ⌝ }
+    ensures { λ r. ⌜ Logged eventBytes (partEvents x way at added spec) (now (log .entry)) (now (log .exit)) r ⌝ }
 {
     let base = x.regs[1];
     let index = x.regs[2];
@@ -47,13 +49,21 @@ fn put_part(log: &mut [u8], x: Record, spec: u8, way: Way, at: Sources) -> usize
         8 => put_masked(log, way, base, x.mask),
         9 => put_masked(log, way, base, x.mask),
         10 => put_masked(log, way, x.regs[3], x.mask),
-        18 => put_deref(log, x, way, base, 0, at_base),
-        19 => put_deref(log, x, way, base, x.mask, at_base),
-        20 => put_deref(log, x, way, RDI, 0, at_rdi),
-        21 => put_deref(log, x, way, RSI, 0, at_rsi),
-        22 => put_deref(log, x, way, EDI, 0, low(at_rdi)),
-        23 => put_deref(log, x, way, ESI, 0, low(at_rsi)),
-        24 => put_deref(log, x, way, base, 0, plus(at_base, sign_extended(x.disp))),
+        18 => put_deref(log, x, way, base, 0, at_base, added),
+        19 => put_deref(log, x, way, base, x.mask, at_base, added),
+        20 => put_deref(log, x, way, RDI, 0, at_rdi, added),
+        21 => put_deref(log, x, way, RSI, 0, at_rsi, added),
+        22 => put_deref(log, x, way, EDI, 0, low(at_rdi), added),
+        23 => put_deref(log, x, way, ESI, 0, low(at_rsi), added),
+        24 => put_deref(
+            log,
+            x,
+            way,
+            base,
+            0,
+            plus(at_base, sign_extended(x.disp)),
+            added,
+        ),
         25 => put_deref(
             log,
             x,
@@ -61,10 +71,19 @@ fn put_part(log: &mut [u8], x: Record, spec: u8, way: Way, at: Sources) -> usize
             base,
             x.mask,
             plus(at_base, sign_extended(x.disp)),
+            added,
         ),
-        26 => put_deref(log, x, way, index, 0, at_index),
-        27 => put_deref(log, x, way, index, x.mask, at_index),
-        28 => put_deref(log, x, way, index, 0, plus(at_index, sign_extended(x.disp))),
+        26 => put_deref(log, x, way, index, 0, at_index, added),
+        27 => put_deref(log, x, way, index, x.mask, at_index, added),
+        28 => put_deref(
+            log,
+            x,
+            way,
+            index,
+            0,
+            plus(at_index, sign_extended(x.disp)),
+            added,
+        ),
         29 => put_deref(
             log,
             x,
@@ -72,15 +91,17 @@ fn put_part(log: &mut [u8], x: Record, spec: u8, way: Way, at: Sources) -> usize
             index,
             x.mask,
             plus(at_index, sign_extended(x.disp)),
+            added,
         ),
-        30 => put_indexed(log, x, way, 0, sum(at_base, at_index)),
-        31 => put_indexed(log, x, way, x.mask, sum(at_base, at_index)),
+        30 => put_indexed(log, x, way, 0, sum(at_base, at_index), added),
+        31 => put_indexed(log, x, way, x.mask, sum(at_base, at_index), added),
         32 => put_indexed(
             log,
             x,
             way,
             0,
             plus(sum(at_base, at_index), sign_extended(x.disp)),
+            added,
         ),
         33 => put_indexed(
             log,
@@ -88,9 +109,16 @@ fn put_part(log: &mut [u8], x: Record, spec: u8, way: Way, at: Sources) -> usize
             way,
             x.mask,
             plus(sum(at_base, at_index), sign_extended(x.disp)),
+            added,
         ),
-        34 => put_access(log, x, way, plus(Value::Known(0), x.disp)),
-        35 => put_access(log, x, way, plus(Value::Known(0), x.disp % 0x1_0000_0000)),
+        34 => put_access(log, x, way, plus(Value::Known(0), x.disp), added),
+        35 => put_access(
+            log,
+            x,
+            way,
+            plus(Value::Known(0), x.disp % 0x1_0000_0000),
+            added,
+        ),
         _ => 0,
     }
 }
@@ -109,13 +137,49 @@ fn has_part(accesses: u8, part: u8) -> bool
     (accesses >> part) % 2 == 1
 }
 
+// The specs of memory, but for 20 and 22, the destination of a string instruction.
+fn takes_base(spec: u8) -> bool
+    ensures { λ r. ⌜ r ≡ takesBase spec ⌝ }
+{
+    (spec < 36) & (17 < spec) & !(spec == 20) & !(spec == 22)
+}
+
+// The segment whose base a part adds.
+fn segment_of(x: Record, spec: u8, way: Way) -> u8
+    ensures { λ r. ⌜ r ≡ partSegment x way spec ⌝ }
+{
+    if is_stopped(x, way) {
+        return 0;
+    }
+    if takes_base(spec) { x.segment } else { 0 }
+}
+
+// No segment adds nothing.
+fn added_by(segment: u8, base: Value) -> Value
+    ensures { λ r. ⌜ r ≡ addedBy segment base ⌝ }
+{
+    if segment == 0 { Value::Known(0) } else { base }
+}
+
+// The base of its segment is read before all else of a part.
+fn put_based(log: &mut [u8], x: Record, spec: u8, way: Way, at: Sources) -> usize
+    requires { ⌜ size eventBytes (basedEvents x way at spec) ≤ length (now log) ⌝ }
+    ensures { λ r. ⌜ Logged eventBytes (basedEvents x way at spec) (now (log .entry)) (now (log .exit)) r ⌝ }
+{
+    let segment = segment_of(x, spec, way);
+    let base = at.segment;
+    let added = added_by(segment, base);
+    let n = put_segment(log, segment);
+    n + put_part(&mut log[n..], x, spec, way, at, added)
+}
+
 // Part 2 i is the read part of operand i, and part 2 i + 1 its write part: each bit of the accesses is a part.
 fn put_part_at(log: &mut [u8], x: Record, part: u8, at: Sources) -> usize
     requires { ⌜ (part < 8) × (size eventBytes (partAt x at part) ≤ length (now log)) ⌝ }
     ensures { λ r. ⌜ Logged eventBytes (partAt x at part) (now (log .entry)) (now (log .exit)) r ⌝ }
 {
     if has_part(x.digest.operands, part) {
-        put_part(log, x, x.spec(part / 2), way_of(part), at)
+        put_based(log, x, x.spec(part / 2), way_of(part), at)
     } else {
         0
     }

@@ -14,7 +14,7 @@ use Rattle.laws.specs.Tests.{firstOf}
 use Rattle.laws.specs.Lending.{lacksRoom, splice}
 use Rattle.laws.proofs.Lending.{part, back, part-is, back-is, part-length}
 use Rattle.registers.specs.declared.RegisterFile.{RegisterFile}
-use Rattle.record.specs.Records.{isRecord, recordOf, outside}
+use Rattle.record.specs.Records.{recordOf, recordTests}
 use Rattle.definition.specs.Limits.{mostBytes}
 use Rattle.definition.specs.Behaviors.{complex}
 use Rattle.definition.specs.Steps.{stepsOf}
@@ -60,13 +60,8 @@ module _ (bad : Bool) (b : List ℕ) (f : RegisterFile) where
   -- the tests before the last
   abbrev tests : List (Bool × ℕ)
   tests =
-      (not (isRecord b), 1)
-      ∷ (outside (recordOf b), 2)
-      ∷ (bad, 3)
-      ∷ (complex (fixedRecord b), 4)
-      ∷ (nameless (fixedRecord b), 5)
-      ∷ (sizeless (fixedRecord b), 6)
-      ∷ []
+      recordTests b
+      ++ ((bad, 3) ∷ (complex (fixedRecord b), 4) ∷ (nameless (fixedRecord b), 5) ∷ (sizeless (fixedRecord b), 6) ∷ [])
 
   abbrev byLast : Bool → ℕ
   byLast t = firstOf (tests ++ ((t, 7) ∷ []))
@@ -111,7 +106,7 @@ module _ (bad : Bool) (b : List ℕ) (f : RegisterFile) where
   last-decides : (t : Bool) → byLast false ≡ 0 → byLast t ≡ cond t 7 0
   unfolding firstOf
   last-decides true z =
-      first-back tests ((true, 7) ∷ []) (first-zero tests (lit≤ tt, (lit≤ tt, (lit≤ tt, (lit≤ tt, (lit≤ tt, (lit≤ tt, tt)))))) (sym (no-last tests) ∙ z))
+      first-back tests ((true, 7) ∷ []) (first-zero tests (lit≤ tt, (lit≤ tt, (lit≤ tt, (lit≤ tt, (lit≤ tt, (lit≤ tt, (lit≤ tt, tt))))))) (sym (no-last tests) ∙ z))
   last-decides false z = z
 
   others-decide : (t : Bool) → (byLast false ≡ 0 → ⊥) → byLast t ≡ byLast false

@@ -36,7 +36,7 @@ pub enum Naming {
 }
 
 // A length that a variable may have.
-pub(crate) fn is_length(n: u64) -> bool
+pub fn is_length(n: u64) -> bool
     ensures { λ r. ⌜ r ≡ isLength n ⌝ }
 {
     1 <= n && n <= 8
@@ -62,7 +62,7 @@ fn store_verdict(v: Variable, a: u64, n: u8) -> Verdict
     Verdict::NoneTouched
 }
 
-pub(crate) fn verdict_on(v: Variable, e: Event) -> Verdict
+pub fn verdict_on(v: Variable, e: Event) -> Verdict
     requires { ⌜ (isLength (v .length) ≡ true) × (isEvent e ≡ true) ⌝ }
     ensures { λ r. ⌜ r ≡ verdictOf v e ⌝ }
 {

@@ -63,7 +63,7 @@ pub enum Visited {
 
 pub fn visit(record: &Record, file: &RegisterFile) -> Visited {
     let behavior = record.behavior();
-    let mut visitor = LogVisitor { file, log: Vec::with_capacity(177) };
+    let mut visitor = LogVisitor { file, log: Vec::with_capacity(crate::expected::LOG_BYTES), uncut: record.uncut_accesses() };
     let outcome = quietly(|| behavior.visit_accesses(&mut visitor));
     match outcome {
         Ok(Ok(())) => Visited::Log(visitor.log),
@@ -93,12 +93,17 @@ impl Sink for Vec<u8> {
 pub struct LogVisitor<'a, S> {
     pub file: &'a RegisterFile,
     pub log: S,
+    /// How many accesses yet to come are logged as they are reported. Those after them are cut to 32 bits (T-02).
+    pub uncut: usize,
 }
 
 impl<S: Sink> LogVisitor<'_, S> {
     fn memory(&mut self, known_kind: u8, address: Option<u64>, size: u32) {
+        let cut = self.uncut == 0;
+        self.uncut = self.uncut.saturating_sub(1);
         match address {
             Some(address) => {
+                let address = if cut { address % (1 << 32) } else { address };
                 self.log.put([known_kind]);
                 self.log.put(address.to_le_bytes());
                 self.log.put([size as u8]);

@@ -1,6 +1,6 @@
 //! A plain reader of log events, written from document 01.
 
-use crate::refusals::{is_register, LARGEST_SIZE};
+use crate::refusals::{is_logged, LARGEST_SIZE};
 
 #[derive(Copy, Clone, Debug, PartialEq, Eq)]
 pub enum Read {
@@ -28,7 +28,7 @@ pub fn read(log: &[u8], at: usize) -> Read {
     }
     let event = &log[at..at + length];
     let good = match length {
-        3 => is_register(event[1], event[2]),
+        3 => is_logged(event[1], event[2]),
         _ => (1..=LARGEST_SIZE).contains(&event[length - 1]),
     };
     if good {

@@ -8,8 +8,10 @@
 pub mod asked;
 pub mod cases;
 pub mod event;
+pub mod everyday;
 pub mod expected;
 pub mod input;
 pub mod record;
 pub mod refusals;
 pub mod register_file;
+pub mod segment;

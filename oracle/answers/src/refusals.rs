@@ -1,6 +1,9 @@
 //! Document 01's refusal table, but for 4 (the given Rust's answer) and 7 (the room).
 
-use crate::{record, register_file};
+use crate::{everyday, record, register_file};
+
+/// The bases of fs and gs, which an event alone may name.
+const BASES: u8 = 13;
 
 /// How many registers each bank has, by the bank's number.
 const REGISTERS: [u8; 13] = [16, 16, 16, 16, 8, 32, 32, 32, 8, 1, 1, 1, 32];
@@ -13,9 +16,15 @@ pub fn is_register(bank: u8, number: u8) -> bool {
     REGISTERS.get(bank as usize).is_some_and(|&registers| number < registers)
 }
 
-/// 1 or 2, for a record's bytes.
+/// What an event may name: the bases of fs and gs too (T-10).
+pub fn is_logged(bank: u8, number: u8) -> bool {
+    is_register(bank, number) || (bank == BASES && number < 2)
+}
+
+/// 1, 2 or 9, for a record's bytes.
 pub fn of_record(bytes: &[u8]) -> Option<u8> {
-    if bytes.len() != record::LENGTH || bytes[0] != record::KIND {
+    let kind = bytes.first().zip(Some(bytes.len()));
+    if !record::KINDS.iter().any(|(byte, length)| kind == Some((byte, *length))) {
         return Some(1);
     }
     let bad = bytes[3] > 4
@@ -24,16 +33,23 @@ pub fn of_record(bytes: &[u8]) -> Option<u8> {
         || bytes[16] > LARGEST_SIZE
         || bytes[34] > 0x0F
         || bytes[35] > 7
-        || u16::from_le_bytes([bytes[38], bytes[39]]) > LAST_LIST;
-    bad.then_some(2)
+        || bytes.get(38..40).is_some_and(|list| u16::from_le_bytes([list[0], list[1]]) > LAST_LIST)
+        || bytes.get(40).is_some_and(|&segment| segment > 2);
+    match everyday::filled_in(bytes) {
+        _ if bad => Some(2),
+        None => Some(9),
+        Some(_) => None,
+    }
 }
 
 /// Whether a register file is refused 3.
 pub fn of_file(bytes: &[u8]) -> bool {
-    bytes.len() != register_file::LENGTH
-        || bytes[0] != register_file::KIND
-        || bytes[3] > 1 // known bits 16 to 23: only bit 16 is a register
-        || bytes[4] != 0
+    let kind = bytes.first().zip(Some(bytes.len()));
+    let Some((_, _, values)) = register_file::KINDS.iter().find(|(byte, length, _)| kind == Some((byte, *length)))
+    else {
+        return true;
+    };
+    u32::from_le_bytes(bytes[1..5].try_into().unwrap()) >> values != 0
 }
 
 /// The causes of 5 and 6 in a record, under the digest after fix-ups.

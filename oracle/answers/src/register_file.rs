@@ -1,9 +1,9 @@
-//! A register file's 141 bytes, and what it knows of a register.
+//! A register file's bytes, and what it knows of a register that the given Rust has.
 
 use given::long_mode::{RegSpec, RegisterBank};
 
-pub const LENGTH: usize = 141;
-pub const KIND: u8 = 0x20;
+/// The kinds of files, the length of each, and how many values it has.
+pub const KINDS: [(u8, usize, u32); 2] = [(0x20, 141, 17), (0x21, 157, 19)];
 const RIP: u8 = 16;
 
 pub struct RegisterFile {

@@ -1,7 +1,7 @@
 //! Document 01's bench records, P1 to P11, through the oracle.
 
 use answers::cases::draft::*;
-use answers::cases::{bases, files};
+use answers::cases::{bases, files, kinds};
 use answers::expected::{self, Refusal};
 use answers::input::Input;
 
@@ -48,6 +48,7 @@ fn p4() {
 fn p5_to_p7() {
     let record = Draft::of(&[DISP]).reg(1, Q, 3).disp(0xFFFF_FFF8);
     assert_eq!(address(record, files::holding(&[(3, 4)])), 0xFFFF_FFFF_FFFF_FFFC);
+    assert_eq!(address(record.prefixes(0x08), files::holding(&[(3, 4)])), 0xFFFF_FFFC);
     assert_eq!(address(record.spec(0, DISP_U32), files::holding(&[(3, 4)])), 0xFFFF_FFF8);
     let record = Draft::of(&[MEM_INDEX_SCALE]).reg(2, Q, 1).scale(2);
     assert_eq!(address(record, files::holding(&[(1, 0x8000_0000_0000_0001)])), 2);
@@ -58,6 +59,7 @@ fn p8_and_p9() {
     let push = Draft::of(&[]).list(26);
     assert_eq!(log(push, files::holding(&[])).len(), 19);
     assert_eq!(address(push, files::holding(&[])), 0xFFFF_FFFF_FFFF_FFF8);
+    assert_eq!(address(push.prefixes(0x08), files::holding(&[])), 0xFFFF_FFFF_FFFF_FFF8);
     let xlat = Draft::of(&[]).list(28).size(1);
     assert_eq!(address(xlat, files::holding(&[(3, 0x2000), (0, 0x1234)])), 0x2034);
 }
@@ -81,8 +83,39 @@ fn sizes() {
 #[test]
 fn the_longest() {
     let longest = bases::longest();
-    assert_eq!(log(longest.record, longest.file).len(), expected::LOG_BYTES);
+    // Each of eight parts gets a read of the base, of 3 bytes.
+    assert_eq!(log(longest.record, longest.file).len(), expected::LOG_BYTES - 8 * 3);
+    let (record, file) = (kinds::segmented(&longest.record.0, 1).unwrap(), kinds::based(&longest.file, 3).unwrap());
+    assert_eq!(expected::log(&record, &file).unwrap().len(), expected::LOG_BYTES);
     assert_eq!(expected::listing(&longest.record.0).unwrap().len(), expected::LISTING_BYTES);
+}
+
+/// T-10: the base is read first and added last; LEA's read part and specs 20 and 22 ask for none.
+#[test]
+fn segments() {
+    let file = kinds::based(&files::holding(&[(3, 0x1000), (7, 0x3000)]), 1).unwrap();
+    let fs: [u8; 8] = file[141..149].try_into().unwrap();
+    let at = u64::from_le_bytes(fs).wrapping_add(0x1000).to_le_bytes();
+    let of = |record: Draft, segment| expected::log(&kinds::segmented(&record.0, segment).unwrap(), &file).unwrap();
+    let load = Draft::of(&[DEREF]).reg(1, Q, 3);
+    assert_eq!(of(load, 1), [&[1, 13, 0, 1, 0, 3, 3][..], &at, &[8]].concat());
+    assert_eq!(of(load, 2), [1, 13, 1, 1, 0, 3, 5, 8]);
+    assert_eq!(of(load, 0), [1, 0, 3, 3, 0, 0x10, 0, 0, 0, 0, 0, 0, 8]);
+    assert_eq!(of(load.opcode(LEA), 1), [1, 0, 3]);
+    assert_eq!(of(Draft::of(&[DEREF_RDI]), 1), [1, 0, 7, 3, 0, 0x30, 0, 0, 0, 0, 0, 0, 8]);
+}
+
+/// T-11: a record without a digest is one with the digest of the table; an opcode that is not in it is 9, after 2 and before 3.
+#[test]
+fn no_digest() {
+    let (none, bad) = (files::holding(&[]), [0; 141]);
+    let adc = Draft::of(&[REG_RRR, REG_MMM]).opcode(108).reg(0, Q, 1).reg(1, Q, 3);
+    let of = |record: Draft, file: &[u8]| expected::log(&kinds::bare(&record.0).unwrap(), file);
+    assert_eq!(of(adc, &none), Ok(vec![1, 11, 0, 2, 11, 0, 1, 0, 1, 2, 0, 1, 1, 0, 3]));
+    assert_eq!(of(adc, &bad), Err(Refusal::Number(3)));
+    assert_eq!(of(adc.opcode(119), &bad), Err(Refusal::Number(9)));
+    assert_eq!(of(adc.opcode(119).size(65), &bad), Err(Refusal::Number(2)));
+    assert_eq!(expected::digest(&kinds::bare(&adc.opcode(118).0).unwrap()), 0x1B_0002_0000);
 }
 
 /// The text turns an opcode into a `ComplexOp` by its number: every number must come through.

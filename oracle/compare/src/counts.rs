@@ -3,16 +3,17 @@
 use answers::expected;
 use answers::input::{Call, CALLS};
 
-/// Numbers 0 to 7, then `finished`.
-const COLUMNS: usize = 9;
+/// What is counted: the refusals, then `finished`.
+const NUMBERS: [u8; 10] = [0, 1, 2, 3, 4, 5, 6, 7, 9, expected::FINISHED];
 
+/// Its place in `NUMBERS`; that of `finished` for a number that no call has.
 fn column(number: u8) -> usize {
-    (number as usize).min(COLUMNS - 1)
+    NUMBERS.iter().position(|&known| known == number).unwrap_or(NUMBERS.len() - 1)
 }
 
 #[derive(Default)]
 pub struct Counts {
-    answered: [[u64; COLUMNS]; CALLS.len()],
+    answered: [[u64; NUMBERS.len()]; CALLS.len()],
     differences: [u64; CALLS.len()],
 }
 
@@ -36,7 +37,11 @@ impl Counts {
     /// Prints the table. False where a call never gave a number that document 01 says it can give.
     pub fn print(&self) -> bool {
         println!("\nexpected answers by number:");
-        println!("{:<11}{}  finished  differences", "", (0..8).map(|n| format!("{n:>10}")).collect::<String>());
+        println!(
+            "{:<11}{}  finished  differences",
+            "",
+            NUMBERS[..9].iter().map(|n| format!("{n:>10}")).collect::<String>()
+        );
         let mut complete = true;
         for call in CALLS {
             let row = &self.answered[call as usize - 1];

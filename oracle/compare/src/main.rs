@@ -16,7 +16,7 @@ use std::process::ExitCode;
 use std::time::Instant;
 
 use answers::cases::random::{self, Random};
-use answers::cases::{bases, logs, FAMILIES};
+use answers::cases::{bases, kinds, logs, FAMILIES};
 use comparison::Comparison;
 
 struct Options {
@@ -50,7 +50,12 @@ fn main() -> ExitCode {
     let mut comparison = Comparison::new();
     for family in &FAMILIES {
         timed(&mut comparison, family.name, |comparison| {
-            (family.each)(&mut |record, file| comparison.pair(record, file))
+            let mut turn = 0;
+            (family.each)(&mut |record, file| {
+                comparison.pair(record, file);
+                turn += 1;
+                kinds::each(record, file, turn, &mut |record, file| comparison.pair(record, file));
+            })
         });
     }
     timed(&mut comparison, "rooms and starts", every_room);
@@ -102,6 +107,9 @@ fn random_cases(comparison: &mut Comparison, options: &Options) {
         let record = random::record(&mut random);
         let file = random::file(&mut random);
         comparison.pair(&record, &file);
+        if turn % 4 == 1 {
+            kinds::each(&record, &file, (turn / 4) as usize, &mut |record, file| comparison.pair(record, file));
+        }
         if turn % 64 == 0 {
             comparison.rooms(&record, &file);
         }

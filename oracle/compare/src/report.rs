@@ -111,7 +111,7 @@ fn hex(bytes: &[u8]) -> String {
 
 /// A record's fields in words, where it has all of them.
 fn fields(record: &[u8]) -> String {
-    let Ok(b) = <[u8; 40]>::try_from(record) else {
+    let Some(b) = record.first_chunk::<40>() else {
         return format!("\n            ({} bytes)", record.len());
     };
     let long = |at: usize| u64::from_le_bytes(b[at..at + 8].try_into().unwrap());
@@ -131,5 +131,5 @@ fn fields(record: &[u8]) -> String {
         b[36],
         b[37],
         u16::from_le_bytes([b[38], b[39]]),
-    )
+    ) + &record.get(40).map_or(String::new(), |segment| format!(", segment {segment}"))
 }

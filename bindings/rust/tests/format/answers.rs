@@ -3,6 +3,7 @@ use crate::common::Random;
 use crate::document::{number, range, table};
 use crate::subject::{full, record};
 use machhurel::ffi::*;
+use machhurel::EVERYDAY_RECORD_BYTES;
 use std::collections::{BTreeMap, BTreeSet};
 
 const CASES: usize = 50_000;
@@ -28,6 +29,11 @@ fn any_record(random: &mut Random) -> Vec<u8> {
     bytes[38] = random.below(29) as u8;
     match random.below(16) {
         0 => bytes.truncate(random.index(40)),
+        2..=4 => {
+            bytes[0] = 0x12;
+            bytes[1] = random.one_of(&[1, 28, 99, 100, 117, 118, 119]);
+            bytes.truncate(EVERYDAY_RECORD_BYTES);
+        }
         1 => {
             let at = random.index(40);
             bytes[at] = random.next() as u8;

@@ -8,13 +8,16 @@ const DISP: u64 = 0x1122_3344_F566_7788;
 const SCALE: u64 = 3;
 const MASK: [u8; 3] = [1, 8, 5];
 
+const ADDRESS_SIZE: u8 = 0x08;
+
 /// A record with one operand of a spec.
-fn of_spec(spec: u8, access: u8) -> Vec<u8> {
+fn of_spec(spec: u8, access: u8, prefixes: u8) -> Vec<u8> {
     let mut changes = vec![
         (3, 1),
         (4, spec),
         (17, SCALE as u8),
         (26, 9),
+        (34, prefixes),
         (35, MASK[2]),
         (37, access),
     ];
@@ -33,8 +36,8 @@ fn of_spec(spec: u8, access: u8) -> Vec<u8> {
     logged(&changes)
 }
 
-/// What reading and writing memory of a spec logs, by its row.
-fn memory_row(row: &[&str], kind: u8) -> Vec<u8> {
+/// What reading and writing memory of a spec logs, by its row; only the address-size bit cuts.
+fn memory_row(row: &[&str], kind: u8, prefixes: u8) -> Vec<u8> {
     let (mut log, mut address) = (Vec::new(), 0u64);
     for (name, factor) in [(row[4], 1), (row[5], SCALE)] {
         if !name.is_empty() {
@@ -50,12 +53,10 @@ fn memory_row(row: &[&str], kind: u8) -> Vec<u8> {
         other => panic!("no displacement: {other:?}"),
     };
     let mask = if row[3] == "mask" { &MASK[..] } else { &[] };
-    [
-        &log,
-        mask,
-        &memory(kind, address.wrapping_add(displacement)),
-    ]
-    .concat()
+    let sum = address.wrapping_add(displacement);
+    let cut = prefixes & ADDRESS_SIZE != 0;
+    let place = if cut { sum & 0xFFFF_FFFF } else { sum };
+    [&log, mask, &memory(kind, place)].concat()
 }
 
 fn register_row(row: &[&str], name: &str, write: bool) -> Vec<u8> {
@@ -74,7 +75,9 @@ fn specs() {
     assert_eq!(table.len(), 36);
     for row in table {
         let spec = number(row[0]) as u8;
-        for (access, write) in [(1, false), (2, true)] {
+        for (access, write, prefixes) in
+            (0..16).flat_map(|prefixes| [(1, false, prefixes), (2, true, prefixes)])
+        {
             let log = match row[2].split_once(' ').unwrap_or((row[2], "")) {
                 ("nothing", _) => {
                     let refused = visit(
@@ -88,13 +91,13 @@ fn specs() {
                 }
                 ("immediate", _) => Vec::new(),
                 ("register", name) => register_row(&row, name, write),
-                ("memory", _) => memory_row(&row, 3 + u8::from(write)),
+                ("memory", _) => memory_row(&row, 3 + u8::from(write), prefixes),
                 other => panic!("no operand: {other:?}"),
             };
             assert_eq!(
-                of_spec(spec, access),
+                of_spec(spec, access, prefixes),
                 log,
-                "spec {} ({}), access {access}",
+                "spec {} ({}), access {access}, prefixes {prefixes}",
                 spec,
                 row[1]
             );

@@ -1,8 +1,9 @@
 //! The digest call: 0-7 number, 8-15 behavior, 16-23 operand access, 32-47 list. Fix-ups need bit 4 of the behavior.
 use crate::rows::report;
 use crate::samples::*;
+use machhurel::RECORD_BYTES;
 
-fn row(name: &str, x: [u8; 40], answer: u64) {
+fn row(name: &str, x: [u8; RECORD_BYTES], answer: u64) {
     report(name, crate::calls::machhurel_digest(&x) == answer);
 }
 

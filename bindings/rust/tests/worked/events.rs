@@ -35,7 +35,10 @@ fn kinds() {
 
 #[test]
 fn contents() {
-    row("event of bank 13", b"\x01\x0D\x00", 0, 2);
+    row("event of bank 14", b"\x01\x0E\x00", 0, 2);
+    row("event of fs", b"\x02\x0D\x00", 0, 0x03_0000_0000);
+    row("event of gs", b"\x01\x0D\x01", 0, 0x03_0000_0000);
+    row("event of bank 13 number 2", b"\x01\x0D\x02", 0, 2);
     row("event of Q 16", b"\x02\x00\x10", 0, 2);
     row("event of Q 15", b"\x02\x00\x0F", 0, 0x03_0000_0000);
     row("event of size 0", b"\x05\x00", 0, 2);

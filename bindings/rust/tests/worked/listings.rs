@@ -3,14 +3,15 @@ use crate::rows::holds;
 use crate::rows::report;
 use crate::rows::BUFFER;
 use crate::samples::*;
+use machhurel::RECORD_BYTES;
 
-fn row_in(name: &str, x: [u8; 40], room: usize, start: usize, answer: u64, bytes: &[u8]) {
+fn row_in(name: &str, x: [u8; RECORD_BYTES], room: usize, start: usize, answer: u64, bytes: &[u8]) {
     let mut out = [0xEEu8; BUFFER];
     let given = crate::calls::machhurel_listing(&x, &mut out[..room], start);
     report(name, given == answer && holds(&out, start, bytes));
 }
 
-fn row(name: &str, x: [u8; 40], answer: u64, bytes: &[u8]) {
+fn row(name: &str, x: [u8; RECORD_BYTES], answer: u64, bytes: &[u8]) {
     row_in(name, x, 60, 3, answer, bytes);
 }
 
@@ -42,7 +43,7 @@ fn implicit() {
 }
 
 /// Flags, list 26 and four operands: no listing is longer.
-fn longest() -> [u8; 40] {
+fn longest() -> [u8; RECORD_BYTES] {
     let x = with(operands(4, REG_RRR, REG_MMM, 0xE4), SPEC_3, DISP_U32);
     with(with(x, BEHAVIOR, 0x0C), LIST, 26)
 }
@@ -63,7 +64,7 @@ fn room() {
 #[test]
 fn refused() {
     row("listing of kind 0x20", with(plain(), 0, 0x20), 1, b"");
-    row("listing of spec 36", one(40, 0x20, 36), 2, b"");
+    row("listing of spec 36", one(PLAIN, 0x20, 36), 2, b"");
     row("complex BT of Disp", one(24, 0x20, MEM_DISP), 0x1804, b"");
     let listing = b"\x46\x00\x02\x01";
     row(

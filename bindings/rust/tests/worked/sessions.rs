@@ -14,17 +14,18 @@ use crate::samples::DISP;
 use crate::samples::MEM_DISP;
 use crate::samples::NUMBER_1;
 use crate::samples::REG_RRR;
+use machhurel::{FILE_BYTES, RECORD_BYTES};
 
 /// The count of an answer: bytes written, or needed after 7.
 const BYTES: u64 = 1 << 32;
 
 /// An addition to 8 bytes at rbx + 8: six events, two of them of memory. 32 bytes where rbx is known, 16 where it is not.
-fn adding() -> [u8; 40] {
+fn adding() -> [u8; RECORD_BYTES] {
     let bytes = with(operands(2, MEM_DISP, REG_RRR, 0x07), BEHAVIOR, 0x08);
     with(with(bytes, NUMBER_1, 3), DISP, 8)
 }
 
-fn known() -> [u8; 141] {
+fn known() -> [u8; FILE_BYTES] {
     knowing(unknown(), 3, 0x1000)
 }
 

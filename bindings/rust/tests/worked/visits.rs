@@ -3,11 +3,12 @@ use crate::rows::holds;
 use crate::rows::report;
 use crate::rows::BUFFER;
 use crate::samples::*;
+use machhurel::{FILE_BYTES, RECORD_BYTES};
 
 fn row_in(
     name: &str,
-    x: [u8; 40],
-    file: [u8; 141],
+    x: [u8; RECORD_BYTES],
+    file: [u8; FILE_BYTES],
     room: usize,
     start: usize,
     answer: u64,
@@ -19,7 +20,7 @@ fn row_in(
 }
 
 /// Room for every log, and bytes before and behind it.
-fn row(name: &str, x: [u8; 40], file: [u8; 141], answer: u64, bytes: &[u8]) {
+fn row(name: &str, x: [u8; RECORD_BYTES], file: [u8; FILE_BYTES], answer: u64, bytes: &[u8]) {
     row_in(name, x, file, 181, 2, answer, bytes);
 }
 
@@ -34,13 +35,13 @@ fn registers() {
     row("P4", p4, unknown(), 0x0F_0000_0000, log);
 }
 
-fn p2() -> [u8; 40] {
+fn p2() -> [u8; RECORD_BYTES] {
     let x = with(operands(2, MEM_DISP, REG_RRR, 0x07), BEHAVIOR, 0x08);
     with(with(x, NUMBER_1, 3), DISP, 8)
 }
 
 /// rbx is 0x1000.
-fn p2_file() -> [u8; 141] {
+fn p2_file() -> [u8; FILE_BYTES] {
     knowing(unknown(), 3, 0x1000)
 }
 
@@ -61,6 +62,15 @@ fn addresses() {
     let p5 = minus_8(operands(1, MEM_DISP, 0, 0x01));
     let log = b"\x01\x00\x00\x03\xFC\xFF\xFF\xFF\xFF\xFF\xFF\xFF\x08";
     row("P5", p5, knowing(unknown(), 0, 4), 0x0D_0000_0000, log);
+    let short = with(p5, PREFIXES, 0x08);
+    let log = b"\x01\x00\x00\x03\xFC\xFF\xFF\xFF\x00\x00\x00\x00\x08";
+    row(
+        "P5, address size",
+        short,
+        knowing(unknown(), 0, 4),
+        0x0D_0000_0000,
+        log,
+    );
     let p6 = minus_8(operands(1, DISP_U32, 0, 0x01));
     let log = b"\x03\xF8\xFF\xFF\xFF\x00\x00\x00\x00\x08";
     row("P6", p6, unknown(), 0x0A_0000_0000, log);
@@ -75,6 +85,8 @@ fn lists() {
     let rsp = knowing(unknown(), 4, 0);
     let log = b"\x01\x00\x04\x02\x00\x04\x01\x00\x04\x04\xF8\xFF\xFF\xFF\xFF\xFF\xFF\xFF\x08";
     row("P8", listed(26), rsp, 0x13_0000_0000, log);
+    let short = with(listed(26), PREFIXES, 0x08);
+    row("P8, address size", short, rsp, 0x13_0000_0000, log);
     let file = knowing(knowing(unknown(), 3, 0x2000), 0, 0x1234);
     let log = b"\x01\x00\x03\x01\x04\x00\x03\x34\x20\x00\x00\x00\x00\x00\x00\x01";
     row("P9", with(listed(28), SIZE, 1), file, 0x10_0000_0000, log);
@@ -120,20 +132,25 @@ fn sizes() {
 }
 
 /// A start past the end of an empty buffer: each number where later ones would be given too.
-fn refuses(name: &str, x: [u8; 40], file: [u8; 141], answer: u64) {
+fn refuses(name: &str, x: [u8; RECORD_BYTES], file: [u8; FILE_BYTES], answer: u64) {
     row_in(name, x, file, 0, 1, answer, b"");
 }
 
 #[test]
 fn refused() {
-    let file = [0u8; 141];
-    refuses("refused 1", with(one(40, 0x20, 36), 0, 0x11), file, 1);
-    refuses("refused 2", one(40, 0x20, 36), file, 2);
-    refuses("refused 3", one(40, 0x20, 0), file, 3);
-    refuses("refused 4", one(40, 0x20, 0), unknown(), 0x2804);
+    let file = [0u8; FILE_BYTES];
+    refuses("refused 1", with(one(PLAIN, 0x20, 36), 0, 0x11), file, 1);
+    refuses("refused 2", one(PLAIN, 0x20, 36), file, 2);
+    refuses("refused 3", one(PLAIN, 0x20, 0), file, 3);
+    refuses("refused 4", one(PLAIN, 0x20, 0), unknown(), 0x2804);
     let x = with(operands(2, DEREF, 0, 0x05), SIZE, 0);
     refuses("refused 5", x, unknown(), 5);
     let y = with(operands(2, DEREF, 0, 0x01), SIZE, 0);
     refuses("refused 6", y, unknown(), 6);
-    refuses("refused 7", one(40, 0x00, DEREF), unknown(), 0x05_0000_0007);
+    refuses(
+        "refused 7",
+        one(PLAIN, 0x00, DEREF),
+        unknown(),
+        0x05_0000_0007,
+    );
 }

@@ -11,6 +11,7 @@ use crate::samples::with;
 use crate::samples::DEREF;
 use crate::samples::NUMBER_1;
 use crate::samples::REG_RRR;
+use machhurel::{FILE_BYTES, RECORD_BYTES};
 
 /// The word for no number.
 const NEVER: u64 = u64::MAX;
@@ -34,11 +35,11 @@ fn made() {
 }
 
 /// 8 bytes stored at rbx.
-fn storing() -> [u8; 40] {
+fn storing() -> [u8; RECORD_BYTES] {
     with(operands(2, DEREF, REG_RRR, 0x06), NUMBER_1, 3)
 }
 
-fn at(address: u64) -> [u8; 141] {
+fn at(address: u64) -> [u8; FILE_BYTES] {
     knowing(unknown(), 3, address)
 }
 
@@ -46,8 +47,8 @@ fn at(address: u64) -> [u8; 141] {
 fn step(
     name: &str,
     mut watch: [u64; 10],
-    record: [u8; 40],
-    file: [u8; 141],
+    record: [u8; RECORD_BYTES],
+    file: [u8; FILE_BYTES],
     answer: u64,
     after: [u64; 10],
 ) {
@@ -117,7 +118,7 @@ fn untaken() {
     step(
         "step past the limit, refused",
         full,
-        [0u8; 40],
+        [0u8; RECORD_BYTES],
         at(0xFFC),
         2,
         full,

@@ -23,12 +23,15 @@ shared-slice-read-result-3 c = search needs
 shared-slice-read-result-4 : tie.Need-shared-slice-read-result-4
 shared-slice-read-result-4 c = search needs
 
-u16-at-requires : tie.Need-u16-at-requires
-u16-at-requires c κs = search needs
+has-bad-list-requires : tie.Need-has-bad-list-requires
+has-bad-list-requires c κs = search needs
+
+segment-in-requires : tie.Need-segment-in-requires
+segment-in-requires c κs = search needs
 
 returns : tie.Need-returns
 unfolding any outside recordOf
-returns c = rw (c .before .before .before .before .before .has-bad-spec .ensures, c .before .before .before .before .has-bad-reg .ensures, c .u16-at .ensures) (simp (or-assoc, or-false))
+returns c = rw (c .before .before .before .before .before .before .has-bad-spec .ensures, c .before .before .before .before .before .has-bad-reg .ensures, c .before .has-bad-list .ensures, c .segment-in .ensures) (simp (or-assoc, or-false))
 
 pub is-outside-spec : {M : Type 1} → statement M
 is-outside-spec =
@@ -40,5 +43,6 @@ is-outside-spec =
     shared-slice-read-result-2
     shared-slice-read-result-3
     shared-slice-read-result-4
-    u16-at-requires
+    has-bad-list-requires
+    segment-in-requires
     returns)

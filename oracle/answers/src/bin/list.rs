@@ -25,7 +25,7 @@ use std::io::Write;
 use answers::cases::draft::NONTRIVIAL;
 use answers::cases::edges::every_edge;
 use answers::cases::random::{self, Random};
-use answers::cases::{bases, logs, rooms, Take, FAMILIES};
+use answers::cases::{bases, kinds, logs, rooms, Take, FAMILIES};
 use answers::expected;
 use answers::input::{Call, Input, CALLS};
 
@@ -78,7 +78,7 @@ impl List {
         let room = match self.turn % 11 {
             0 => start + n,
             1 => (start + n).saturating_sub(1),
-            _ => 200,
+            _ => 256,
         };
         self.add(&Input::visit(record, file, room, start));
         if record.get(36).is_some_and(|behavior| behavior & NONTRIVIAL != 0) {
@@ -102,6 +102,30 @@ impl List {
         let listing = expected::listing(record).map_or(0, |listing| listing.len());
         for (room, start) in rooms::around(listing).into_iter().filter(|&(room, _)| room <= 50) {
             self.add(&Input::listing(record, room, start));
+        }
+    }
+
+    /// The longest log of all, with just enough room and with one byte less.
+    fn longest_in_a_segment(&mut self) {
+        let longest = bases::longest();
+        let record = kinds::segmented(&longest.record.0, 1).expect("a record of kind 0x10");
+        let file = kinds::based(&longest.file, 3).expect("a file of kind 0x20");
+        for room in [expected::LOG_BYTES, expected::LOG_BYTES - 1] {
+            self.add(&Input::visit(&record, &file, room, 0));
+        }
+    }
+
+    /// Every opcode of the table and those beside it, in a record without a digest; 9 comes before 3.
+    fn no_digest(&mut self) {
+        let p2 = bases::p2();
+        for opcode in [0, 1, 2, 28, 29].into_iter().chain(99..=119) {
+            let record = kinds::bare(&p2.record.opcode(opcode).0).expect("a record of kind 0x10");
+            for call in [Call::Digest, Call::Privilege, Call::Exceptions] {
+                self.add(&Input::of_record(call, &record));
+            }
+            self.add(&Input::visit(&record, &p2.file, 256, 3));
+            self.add(&Input::visit(&record, &[], 256, 3));
+            self.add(&Input::listing(&record, 40, 3));
         }
     }
 
@@ -148,8 +172,17 @@ fn main() {
     every_edge(&mut |record, file| list.pair(&mut random, record, file));
     list.rooms(&bases::p2());
     list.rooms(&bases::longest());
+    list.longest_in_a_segment();
+    list.no_digest();
     for family in &FAMILIES {
-        sample(&mut random, family.each, OF_EACH_FAMILY, |random, record, file| list.pair(random, record, file));
+        let mut turn = 0;
+        sample(&mut random, family.each, OF_EACH_FAMILY, |random, record, file| {
+            list.pair(random, record, file);
+            turn += 1;
+            if turn % 4 == 0 {
+                kinds::each(record, file, turn / 4, &mut |record, file| list.pair(random, record, file));
+            }
+        });
     }
     let files: Vec<Vec<u8>> = (0..24).map(|_| random::file(&mut random)).collect();
     for _ in 0..RANDOM_PAIRS {

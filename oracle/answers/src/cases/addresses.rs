@@ -8,7 +8,10 @@ const EDGES: [u64; 7] =
 const DISPLACEMENTS: [u64; 9] =
     [0, 1, 0x7FFF_FFFF, 0x8000_0000, 0xFFFF_FFFF, 0x1_0000_0000, 0x1_8000_0001, 0xFFFF_FFFF_8000_0000, u64::MAX];
 
-/// Every memory spec over edge values of base, index, scale and displacement; then every scale.
+/// The prefix byte without and with the address-size bit.
+const ADDRESS_SIZES: [u8; 2] = [0x00, 0x08];
+
+/// Every memory spec over edge values of base, index, scale and displacement, of either address size; then every scale.
 pub fn every_sum(take: &mut Take) {
     for base in EDGES {
         for index in EDGES {
@@ -17,7 +20,9 @@ pub fn every_sum(take: &mut Take) {
                 let draft = Draft::of(&[spec]).access(0x03).reg(1, Q, 5).reg(2, Q, 9);
                 for scale in [0, 1, 2, 3, 8, 127, 128, 255] {
                     for disp in DISPLACEMENTS {
-                        take(&draft.scale(scale).disp(disp).0, &file);
+                        for prefixes in ADDRESS_SIZES {
+                            take(&draft.scale(scale).disp(disp).prefixes(prefixes).0, &file);
+                        }
                     }
                 }
             }
@@ -30,7 +35,7 @@ pub fn every_sum(take: &mut Take) {
 }
 
 /// Known-bit patterns that matter: none, all, each alone, each missing, each bit above 16; under
-/// every register of every bank that a file gives, as base and as index, and every list with memory.
+/// every register of every bank that a file gives, as base and as index, and every list, under LEA too and of either address size.
 pub fn every_known_bit(take: &mut Take) {
     let mut patterns = vec![files::NONE_KNOWN, files::ALL_KNOWN, files::EVERY_SECOND, u32::MAX];
     for bit in 0..32 {
@@ -50,7 +55,10 @@ pub fn every_known_bit(take: &mut Take) {
             }
         }
         for list in 0..LISTS {
-            take(&Draft::of(&[DEREF, 22]).access(0x0F).list(list).0, &file);
+            for prefixes in ADDRESS_SIZES {
+                take(&Draft::of(&[DEREF, 22]).access(0x0F).list(list).prefixes(prefixes).0, &file);
+                take(&Draft::of(&[DEREF, 22]).access(0x0F).list(list).prefixes(prefixes).opcode(LEA).0, &file);
+            }
         }
         for spec in DEREF..SPECS {
             take(&Draft::of(&[spec]).access(0x02).reg(1, Q, 1).reg(2, Q, 2).0, &file);

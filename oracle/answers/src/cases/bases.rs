@@ -33,7 +33,7 @@ pub fn p2() -> Base {
     Base { record, file: files::holding(&[(3, 0x1000)]) }
 }
 
-/// The longest log that a record can have: 177 bytes, 38 events.
+/// The longest log that a record without a segment can have: 177 bytes, 38 events; with one it is the longest of all.
 pub fn longest() -> Base {
     let record = Draft::of(&[MEM_BASE_INDEX_SCALE_DISP_MASK; 4])
         .access(0xFF)

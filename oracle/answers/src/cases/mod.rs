@@ -7,6 +7,7 @@ pub mod digests;
 pub mod draft;
 pub mod edges;
 pub mod files;
+pub mod kinds;
 pub mod logs;
 pub mod operands;
 pub mod random;

@@ -2,7 +2,7 @@
 
 /// Rooms and starts around a log or listing of `n` bytes.
 pub fn around(n: usize) -> Vec<(usize, usize)> {
-    let mut rooms = vec![0, 1, n.saturating_sub(1), n, n + 1, 2 * n + 3, 176, 177, 178, 300, 70_000];
+    let mut rooms = vec![0, 1, n.saturating_sub(1), n, n + 1, 2 * n + 3, 200, 201, 202, 300, 70_000];
     rooms.sort();
     rooms.dedup();
     let mut pairs = Vec::new();

@@ -24,9 +24,12 @@ value-requires-2 c κs = search needs
 implied-place-requires : tie.Need-implied-place-requires
 implied-place-requires c κs = search needs
 
+segment-base-requires : tie.Need-segment-base-requires
+segment-base-requires c κs = search needs
+
 returns : tie.Need-returns
 unfolding sourcesOf
-returns c = rw (c .before .before .before .scaled .ensures, c .before .before .before .before .two-values .ensures, c .before .before .value .ensures, c .before .value2 .ensures, c .implied-place .ensures)
+returns c = rw (c .before .before .before .before .scaled .ensures, c .before .before .before .before .before .two-values .ensures, c .before .before .before .value .ensures, c .before .before .value2 .ensures, c .before .implied-place .ensures, c .segment-base .ensures)
 
 pub resolve-spec : {M : Type 1} → statement M
 resolve-spec =
@@ -39,4 +42,5 @@ resolve-spec =
     value-requires
     value-requires-2
     implied-place-requires
+    segment-base-requires
     returns)

@@ -1,6 +1,7 @@
--- `is_full` meets its contract: where 34 bytes have room, so has the listing. Assumes nothing.
+-- `is_full` meets its contract: where the longest listing has room, so has the listing. Assumes nothing.
 use mathlib.Core.Path.{sym, _∙_}
 use borrow.Author.Needs.{needs}
+use Rattle.definition.specs.Limits.{mostListed}
 use Rattle.definition.proofs.ListingBound.{listing-bytes}
 use Rattle.laws.proofs.Room.{room-for-less}
 use Rattle.listing.proofs.call.is_full.Statement.{statement}
@@ -21,7 +22,7 @@ returns c = rw (c .lacks-room2 .ensures, c .before .listing-length .ensures)
 returns-2 : tie.Need-returns-2
 returns-2 c =
     let a = c .before .before .args in
-    sym (room-for-less 34 _ (a .start) (a .end) (listing-bytes (a .x)) (sym (c .before .lacks-room .ensures) ∙ c .if1 .left))
+    sym (room-for-less mostListed _ (a .start) (a .end) (listing-bytes (a .x)) (sym (c .before .lacks-room .ensures) ∙ c .if1 .left))
 
 pub is-full-spec : {M : Type 1} → statement M
 is-full-spec =

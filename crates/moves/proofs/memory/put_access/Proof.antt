@@ -14,16 +14,24 @@ returns : tie.Need-returns
 unfolding accessEvents
 returns c = rw (sym (c .before .is-stopped .ensures) ∙ c .if1 .taken) (silent eventBytes (now (c .before .before .before .args .log)))
 
+cut-requires : tie.Need-cut-requires
+cut-requires c κs = search needs
+
+sum-requires : tie.Need-sum-requires
+sum-requires c κs = search needs
+
 put-memory-requires : tie.Need-put-memory-requires
 unfolding accessEvents
-put-memory-requires c κs = rw (sym (c .before .before .is-stopped .ensures) ∙ c .before .if1 .left) at (c .before .before .before .before .pre)
+put-memory-requires c κs =
+    rw (c .sum .ensures, c .before .cut .ensures) (rw (sym (c .before .before .before .before .is-stopped .ensures) ∙ c .before .before .before .if1 .left) at (c .before .before .before .before .before .before .pre))
 
 same-length : tie.Need-same-length
 same-length c = search needs
 
 returns-2 : tie.Need-returns-2
 unfolding accessEvents
-returns-2 c = rw (sym (c .before .before .before .before .before .is-stopped .ensures) ∙ c .before .before .before .before .if1 .left) (c .before .before .put-memory .ensures)
+returns-2 c =
+    rw (sym (c .before .before .before .before .before .before .before .is-stopped .ensures) ∙ c .before .before .before .before .before .before .if1 .left, ← c .before .before .before .before .cut .ensures, ← c .before .before .before .sum .ensures) (c .before .before .put-memory .ensures)
 
 pub put-access-spec : {M : Type 1} → statement M
 put-access-spec =
@@ -31,6 +39,8 @@ put-access-spec =
     (tie.spec
     is-stopped-requires
     returns
+    cut-requires
+    sum-requires
     put-memory-requires
     same-length
     returns-2)

@@ -23,7 +23,7 @@ abbrev seg1 : tie.Start → List Event
 seg1 s = moved Read (maskRegisters (s .args .mask))
 
 abbrev seg2 : tie.Start → List Event
-seg2 s = accessEvents (s .args .x) (s .args .way) (s .args .at)
+seg2 s = accessEvents (s .args .x) (s .args .way) (s .args .at) (s .args .added)
 
 abbrev every : tie.Start → List Event
 every s = flat (seg0 s ∷ seg1 s ∷ seg2 s ∷ [])

@@ -18,7 +18,7 @@ abbrev seg0 : tie.Start → List Event
 seg0 s = RegisterRead (regAt (s .args .t2) 1) ∷ []
 
 abbrev seg1 : tie.Start → List Event
-seg1 s = derefEvents (s .args .t2) (s .args .way) (regAt (s .args .t2) 2) (s .args .mask) (s .args .at)
+seg1 s = derefEvents (s .args .t2) (s .args .way) (regAt (s .args .t2) 2) (s .args .mask) (s .args .at) (s .args .added)
 
 abbrev every : tie.Start → List Event
 every s = flat (seg0 s ∷ seg1 s ∷ [])

@@ -1,5 +1,5 @@
 use Rattle.record.specs.Records.{recordAnswer}
-use Rattle.record.proofs.Laws.{forty, passed}
+use Rattle.record.proofs.Laws.{record-long, passed}
 use borrow.Author.Tests.{eq-eqb, ne-eqb}
 use mathlib.Core.Path.{sym, _∙_}
 use denote.Ref.{now}
@@ -18,7 +18,7 @@ unfolding recordAnswer
 returns c = rw (ne-eqb _ _ (rw (c .before .before .refusal-of .ensures) at (c .before .if1 .taken)), ← c .before .before .refusal-of .ensures) (c .refused .ensures)
 
 parse-requires : tie.Need-parse-requires
-parse-requires c κs = forty (now (c .before .before .before .args .b)) (passed (now (c .before .before .before .args .b)) (sym (c .before .refusal-of .ensures) ∙ c .if1 .left) .is)
+parse-requires c κs = record-long (now (c .before .before .before .args .b)) (passed (now (c .before .before .before .args .b)) (sym (c .before .refusal-of .ensures) ∙ c .if1 .left) .is)
 
 returns-2 : tie.Need-returns-2
 unfolding recordAnswer

@@ -60,7 +60,11 @@ returns-13 c = search needs
 
 returns-14 : tie.Need-returns-14
 unfolding widthOf
-returns-14 c = sym (List·getD-eq-default bankWidths 0 (past-all 13 _ (c .match .rest)))
+returns-14 c = search needs
+
+returns-15 : tie.Need-returns-15
+unfolding widthOf
+returns-15 c = sym (List·getD-eq-default bankWidths 0 (past-all 14 _ (c .match .rest)))
 
 pub width-spec : {M : Type 1} → statement M
 width-spec =
@@ -79,4 +83,5 @@ width-spec =
     returns-11
     returns-12
     returns-13
-    returns-14)
+    returns-14
+    returns-15)

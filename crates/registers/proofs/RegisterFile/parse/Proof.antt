@@ -1,10 +1,14 @@
 use Rattle.registers.specs.Files.{fileOf, numbersFrom}
+use native.Mathlib.Omega.{arith}
 use borrow.Author.Needs.{needs}
 use Rattle.registers.proofs.RegisterFile.parse.Statement.{statement}
 use Rattle.registers.proofs.RegisterFile.parse.Tie as tie
 
 u32-at-requires : tie.Need-u32-at-requires
 u32-at-requires c κs = search needs
+
+bases-in-requires : tie.Need-bases-in-requires
+bases-in-requires c κs = search needs
 
 u64-at-requires : tie.Need-u64-at-requires
 u64-at-requires c κs = search needs
@@ -55,13 +59,15 @@ u64-at-requires-16 : tie.Need-u64-at-requires-16
 u64-at-requires-16 c κs = search needs
 
 u64-at-requires-17 : tie.Need-u64-at-requires-17
-u64-at-requires-17 c κs = search needs
+u64-at-requires-17 c κs = omega (arith, c .before .before .before .before .before .before .before .before .before .before .before .before .before .before .before .before .before .before .before .pre .0)
 
 returns : tie.Need-returns
 unfolding fileOf numbersFrom
 returns c =
     rw (
-      c .before .before .before .before .before .before .before .before .before .before .before .before .before .before .before .before .before .u32-at .ensures,
+      c .before .before .before .before .before .before .before .before .before .before .before .before .before .before .before .before .before .before .u32-at .ensures,
+      c .before .before .before .before .before .before .before .before .before .before .before .before .before .before .before .before .before .bases-in .ensures .0,
+      c .before .before .before .before .before .before .before .before .before .before .before .before .before .before .before .before .before .bases-in .ensures .1,
       c .before .before .before .before .before .before .before .before .before .before .before .before .before .before .before .before .u64-at .ensures,
       c .before .before .before .before .before .before .before .before .before .before .before .before .before .before .before .u64-at2 .ensures,
       c .before .before .before .before .before .before .before .before .before .before .before .before .before .before .u64-at3 .ensures,
@@ -86,6 +92,7 @@ parse-spec =
     tie.close
     (tie.spec
     u32-at-requires
+    bases-in-requires
     u64-at-requires
     u64-at-requires-2
     u64-at-requires-3

@@ -407,7 +407,7 @@ returns-28 c = rw (c .before .before .before .before .before .match .keys28) (rw
 
 returns-29 : tie.Need-returns-29
 unfolding partEvents
-returns-29 c = rw (others (parts (c .before .before .before .before .args .t2) (c .before .before .before .before .args .way) (c .before .before .before .before .args .at)) [] (c .before .before .before .before .args .spec) (inr refl, (inl (c .match .rest .0 .0 .0 .0 .0 .0 .0 .0 .0 .0 .0 .0 .0 .0 .0 .0 .0 .0 .0 .0 .0 .0 .0 .0 .0 .0 .0 .1), (inl (c .match .rest .0 .0 .0 .0 .0 .0 .0 .0 .0 .0 .0 .0 .0 .0 .0 .0 .0 .0 .0 .0 .0 .0 .0 .0 .0 .0 .1), (inl (c .match .rest .0 .0 .0 .0 .0 .0 .0 .0 .0 .0 .0 .0 .0 .0 .0 .0 .0 .0 .0 .0 .0 .0 .0 .0 .0 .1), (inl (c .match .rest .0 .0 .0 .0 .0 .0 .0 .0 .0 .0 .0 .0 .0 .0 .0 .0 .0 .0 .0 .0 .0 .0 .0 .0 .1), (inl (c .match .rest .0 .0 .0 .0 .0 .0 .0 .0 .0 .0 .0 .0 .0 .0 .0 .0 .0 .0 .0 .0 .0 .0 .0 .1), (inl (c .match .rest .0 .0 .0 .0 .0 .0 .0 .0 .0 .0 .0 .0 .0 .0 .0 .0 .0 .0 .0 .0 .0 .0 .1), (inl (c .match .rest .0 .0 .0 .0 .0 .0 .0 .0 .0 .0 .0 .0 .0 .0 .0 .0 .0 .0 .0 .0 .0 .1), (inl (c .match .rest .0 .0 .0 .0 .0 .0 .0 .0 .0 .0 .0 .0 .0 .0 .0 .0 .0 .0 .0 .0 .1), (inl (c .match .rest .0 .0 .0 .0 .0 .0 .0 .0 .0 .0 .0 .0 .0 .0 .0 .0 .0 .0 .0 .1), (inl (c .match .rest .0 .0 .0 .0 .0 .0 .0 .0 .0 .0 .0 .0 .0 .0 .0 .0 .0 .0 .1), (inr refl, (inr refl, (inr refl, (inr refl, (inr refl, (inr refl, (inr refl, (inl (c .match .rest .0 .0 .0 .0 .0 .0 .0 .0 .0 .0 .0 .0 .0 .0 .0 .0 .0 .1), (inl (c .match .rest .0 .0 .0 .0 .0 .0 .0 .0 .0 .0 .0 .0 .0 .0 .0 .0 .1), (inl (c .match .rest .0 .0 .0 .0 .0 .0 .0 .0 .0 .0 .0 .0 .0 .0 .0 .1), (inl (c .match .rest .0 .0 .0 .0 .0 .0 .0 .0 .0 .0 .0 .0 .0 .0 .1), (inl (c .match .rest .0 .0 .0 .0 .0 .0 .0 .0 .0 .0 .0 .0 .0 .1), (inl (c .match .rest .0 .0 .0 .0 .0 .0 .0 .0 .0 .0 .0 .0 .1), (inl (c .match .rest .0 .0 .0 .0 .0 .0 .0 .0 .0 .0 .0 .1), (inl (c .match .rest .0 .0 .0 .0 .0 .0 .0 .0 .0 .0 .1), (inl (c .match .rest .0 .0 .0 .0 .0 .0 .0 .0 .0 .1), (inl (c .match .rest .0 .0 .0 .0 .0 .0 .0 .0 .1), (inl (c .match .rest .0 .0 .0 .0 .0 .0 .0 .1), (inl (c .match .rest .0 .0 .0 .0 .0 .0 .1), (inl (c .match .rest .0 .0 .0 .0 .0 .1), (inl (c .match .rest .0 .0 .0 .0 .1), (inl (c .match .rest .0 .0 .0 .1), (inl (c .match .rest .0 .0 .1), (inl (c .match .rest .0 .1), (inl (c .match .rest .1), tt))))))))))))))))))))))))))))))))))))) (silent eventBytes (now (c .before .before .before .before .args .log)))
+returns-29 c = rw (others (parts (c .before .before .before .before .args .t2) (c .before .before .before .before .args .way) (c .before .before .before .before .args .at) (c .before .before .before .before .args .added)) [] (c .before .before .before .before .args .spec) (inr refl, (inl (c .match .rest .0 .0 .0 .0 .0 .0 .0 .0 .0 .0 .0 .0 .0 .0 .0 .0 .0 .0 .0 .0 .0 .0 .0 .0 .0 .0 .0 .1), (inl (c .match .rest .0 .0 .0 .0 .0 .0 .0 .0 .0 .0 .0 .0 .0 .0 .0 .0 .0 .0 .0 .0 .0 .0 .0 .0 .0 .0 .1), (inl (c .match .rest .0 .0 .0 .0 .0 .0 .0 .0 .0 .0 .0 .0 .0 .0 .0 .0 .0 .0 .0 .0 .0 .0 .0 .0 .0 .1), (inl (c .match .rest .0 .0 .0 .0 .0 .0 .0 .0 .0 .0 .0 .0 .0 .0 .0 .0 .0 .0 .0 .0 .0 .0 .0 .0 .1), (inl (c .match .rest .0 .0 .0 .0 .0 .0 .0 .0 .0 .0 .0 .0 .0 .0 .0 .0 .0 .0 .0 .0 .0 .0 .0 .1), (inl (c .match .rest .0 .0 .0 .0 .0 .0 .0 .0 .0 .0 .0 .0 .0 .0 .0 .0 .0 .0 .0 .0 .0 .0 .1), (inl (c .match .rest .0 .0 .0 .0 .0 .0 .0 .0 .0 .0 .0 .0 .0 .0 .0 .0 .0 .0 .0 .0 .0 .1), (inl (c .match .rest .0 .0 .0 .0 .0 .0 .0 .0 .0 .0 .0 .0 .0 .0 .0 .0 .0 .0 .0 .0 .1), (inl (c .match .rest .0 .0 .0 .0 .0 .0 .0 .0 .0 .0 .0 .0 .0 .0 .0 .0 .0 .0 .0 .1), (inl (c .match .rest .0 .0 .0 .0 .0 .0 .0 .0 .0 .0 .0 .0 .0 .0 .0 .0 .0 .0 .1), (inr refl, (inr refl, (inr refl, (inr refl, (inr refl, (inr refl, (inr refl, (inl (c .match .rest .0 .0 .0 .0 .0 .0 .0 .0 .0 .0 .0 .0 .0 .0 .0 .0 .0 .1), (inl (c .match .rest .0 .0 .0 .0 .0 .0 .0 .0 .0 .0 .0 .0 .0 .0 .0 .0 .1), (inl (c .match .rest .0 .0 .0 .0 .0 .0 .0 .0 .0 .0 .0 .0 .0 .0 .0 .1), (inl (c .match .rest .0 .0 .0 .0 .0 .0 .0 .0 .0 .0 .0 .0 .0 .0 .1), (inl (c .match .rest .0 .0 .0 .0 .0 .0 .0 .0 .0 .0 .0 .0 .0 .1), (inl (c .match .rest .0 .0 .0 .0 .0 .0 .0 .0 .0 .0 .0 .0 .1), (inl (c .match .rest .0 .0 .0 .0 .0 .0 .0 .0 .0 .0 .0 .1), (inl (c .match .rest .0 .0 .0 .0 .0 .0 .0 .0 .0 .0 .1), (inl (c .match .rest .0 .0 .0 .0 .0 .0 .0 .0 .0 .1), (inl (c .match .rest .0 .0 .0 .0 .0 .0 .0 .0 .1), (inl (c .match .rest .0 .0 .0 .0 .0 .0 .0 .1), (inl (c .match .rest .0 .0 .0 .0 .0 .0 .1), (inl (c .match .rest .0 .0 .0 .0 .0 .1), (inl (c .match .rest .0 .0 .0 .0 .1), (inl (c .match .rest .0 .0 .0 .1), (inl (c .match .rest .0 .0 .1), (inl (c .match .rest .0 .1), (inl (c .match .rest .1), tt))))))))))))))))))))))))))))))))))))) (silent eventBytes (now (c .before .before .before .before .args .log)))
 
 pub put-part-spec : {M : Type 1} → statement M
 put-part-spec =

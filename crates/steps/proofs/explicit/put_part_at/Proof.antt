@@ -16,16 +16,16 @@ spec-requires c κs = search needs
 way-of-requires : tie.Need-way-of-requires
 way-of-requires c κs = search needs
 
-put-part-requires : tie.Need-put-part-requires
+put-based-requires : tie.Need-put-based-requires
 unfolding partAt
-put-part-requires c κs = rw (c .before .spec .ensures, c .way-of .ensures) (rw (sym (c .before .before .before .before .has-part .ensures) ∙ c .before .before .before .if1 .taken) at (c .before .before .before .before .before .before .pre .1))
+put-based-requires c κs = rw (c .before .spec .ensures, c .way-of .ensures) (rw (sym (c .before .before .before .before .has-part .ensures) ∙ c .before .before .before .if1 .taken) at (c .before .before .before .before .before .before .pre .1))
 
 same-length : tie.Need-same-length
 same-length c = search needs
 
 returns : tie.Need-returns
 unfolding partAt
-returns c = rw (sym (c .before .before .before .before .before .before .before .has-part .ensures) ∙ c .before .before .before .before .before .before .if1 .taken) (rw (c .before .before .before .before .spec .ensures, c .before .before .before .way-of .ensures) at (c .before .before .put-part .ensures))
+returns c = rw (sym (c .before .before .before .before .before .before .before .has-part .ensures) ∙ c .before .before .before .before .before .before .if1 .taken) (rw (c .before .before .before .before .spec .ensures, c .before .before .before .way-of .ensures) at (c .before .before .put-based .ensures))
 
 returns-2 : tie.Need-returns-2
 unfolding partAt
@@ -38,7 +38,7 @@ put-part-at-spec =
     has-part-requires
     spec-requires
     way-of-requires
-    put-part-requires
+    put-based-requires
     same-length
     returns
     returns-2)
