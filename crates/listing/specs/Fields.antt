@@ -20,4 +20,5 @@ listedOf count first second third fourth d =
       prefixes = 0;
       mask = 0;
       digest = d;
+      segment = 0;
     }

@@ -61,6 +61,7 @@ fn put_fields(
         prefixes: 0,
         mask: 0,
         digest: d,
+        segment: 0,
     };
     put_items(out, x)
 }
