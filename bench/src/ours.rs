@@ -3,7 +3,7 @@ use answers::expected::LOG_BYTES;
 use std::hint::black_box;
 
 use machhurel::ffi::machhurel_visit;
-use machhurel::{Session, Watch, LOG_BYTES};
+use machhurel::{Session, Watch};
 
 use crate::inputs::Input;
 

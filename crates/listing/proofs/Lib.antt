@@ -1,3 +1,4 @@
 pub mod Writing
 pub mod Walking
 pub mod Calls
+pub mod Narrow

@@ -3,16 +3,19 @@ use crate::AccessIter;
 use crate::Listed;
 use crate::items::put_item;
 use definition::Answer;
+use digest::BehaviorDigest;
 use record::Record;
+use registers::RegSpec;
 ghost use mathlib.Core.Path.{_≡_};
 ghost use Prim.Native.Nat.{_≤_};
 ghost use lib.ListN.{length};
 ghost use Rattle.laws.specs.Lending.{size, Logged, lacksRoom};
 ghost use Rattle.listing.specs.Calls.{listedFrom};
+ghost use Rattle.listing.specs.Fields.{listedOf};
 ghost use Rattle.definition.specs.Listings.{itemsOf, itemBytes, listingOf, listingCall};
 
-// All items of a record after fix-ups.
-pub fn put_listing(out: &mut [u8], x: Record) -> usize
+// All items of a record after fix-ups. The cursor is handed on by its fields: as a whole it would go through memory.
+fn put_items(out: &mut [u8], x: Record) -> usize
     requires { ⌜ size itemBytes (itemsOf x) ≤ length (now out) ⌝ }
     ensures { λ n. ⌜ Logged itemBytes (itemsOf x) (now (out .entry)) (now (out .exit)) n ⌝ }
 {
@@ -24,8 +27,59 @@ pub fn put_listing(out: &mut [u8], x: Record) -> usize
             return n;
         };
         n = n + put_item(&mut out[n..], item);
-        c = behind;
+        c = AccessIter {
+            explicit: behind.explicit,
+            next: behind.next,
+        };
     }
+}
+
+// The same by the fields that a listing looks at: a record by value would go through memory at the call.
+fn put_fields(
+    out: &mut [u8],
+    count: u8,
+    first: u8,
+    second: u8,
+    third: u8,
+    fourth: u8,
+    d: BehaviorDigest,
+) -> usize
+    requires { ⌜ size itemBytes (itemsOf (listedOf count first second third fourth d)) ≤ length (now out) ⌝ }
+    ensures { λ n. ⌜ Logged itemBytes (itemsOf (listedOf count first second third fourth d)) (now (out .entry)) (now (out .exit)) n ⌝ }
+{
+    let specs = [first, second, third, fourth];
+    let regs = [RegSpec { bank: 0, number: 0 }; 4];
+    let x = Record {
+        opcode: 0,
+        count: count,
+        specs: specs,
+        regs: regs,
+        size: 0,
+        scale: 0,
+        disp: 0,
+        imm: 0,
+        prefixes: 0,
+        mask: 0,
+        digest: d,
+        segment: 0,
+    };
+    put_items(out, x)
+}
+
+// The listing of a record after fix-ups, to the front of what is lent.
+pub fn put_listing(out: &mut [u8], x: Record) -> usize
+    requires { ⌜ size itemBytes (itemsOf x) ≤ length (now out) ⌝ }
+    ensures { λ n. ⌜ Logged itemBytes (itemsOf x) (now (out .entry)) (now (out .exit)) n ⌝ }
+{
+    put_fields(
+        out,
+        x.count,
+        x.specs[0],
+        x.specs[1],
+        x.specs[2],
+        x.specs[3],
+        x.digest,
+    )
 }
 
 // No listing is longer.

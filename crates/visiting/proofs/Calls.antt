@@ -56,9 +56,9 @@ module _ (b : List ℕ) (buffer : List ℕ) (start : ℕ) where
   bad-record bad f e ne = rw e (sym (record-refuses b f buffer start bad (rw e at ne)))
 
   pub visited :
-      {r : ℕ} {x : Record} (f : RegisterFile) → r ≡ recordRefusal b → r ≡ 0 → x ≡ recordOf b
+      {x : Record} (f : RegisterFile) → recordRefusal b ≡ 0 → x ≡ recordOf b
       → visitRecord (fixedUp x) f buffer start ≡ visitBy false b f buffer start
-  visited f e z p = rw p (sym (both-pass b f buffer start (sym e ∙ z)))
+  visited f z p = rw p (sym (both-pass b f buffer start z))
 
   pub bad-file :
       {r u : ℕ} (file : List ℕ) → r ≡ recordRefusal b → r ≡ 0 → u ≡ fileRefusal file → (u ≡ 0 → ⊥)
@@ -66,7 +66,8 @@ module _ (b : List ℕ) (buffer : List ℕ) (start : ℕ) where
   unfolding fileRefusal
   bad-file file e z p ne = rw (p, is-none file (rw p at ne)) (sym (file-refuses b (fileOf file) buffer start (sym e ∙ z)))
 
-  pub visited-file :
-      {r u : ℕ} {x : Record} {f : RegisterFile} (file : List ℕ) → r ≡ recordRefusal b → r ≡ 0 → u ≡ fileRefusal file → u ≡ 0 → x ≡ recordOf b → f ≡ fileOf file
-      → visitRecord (fixedUp x) f buffer start ≡ visitBy (not (isFile file)) b (fileOf file) buffer start
-  visited-file file e z p q i j = rw (is-file file (sym p ∙ q), j) (visited (fileOf file) e z i)
+  -- a file that passed, and what was parsed of it
+  pub good-file :
+      {u : ℕ} {f : RegisterFile} (file : List ℕ) → u ≡ fileRefusal file → u ≡ 0 → f ≡ fileOf file
+      → visitBy false b f buffer start ≡ visitBy (not (isFile file)) b (fileOf file) buffer start
+  good-file file p q j = rw (is-file file (sym p ∙ q), j)

@@ -1,8 +1,17 @@
+use mathlib.Core.Path.{_∙_}
 use denote.Ref.{now}
+use Rattle.record.proofs.Laws.{record-long, passed}
+use Rattle.visiting.proofs.Calls.{visited}
 use Rattle.visiting.proofs.Visits.{fits, done, is-complex, is-refused}
 use borrow.Author.Needs.{needs}
 use Rattle.visiting.proofs.visit.visit_record.Statement.{statement}
 use Rattle.visiting.proofs.visit.visit_record.Tie as tie
+
+parse-requires : tie.Need-parse-requires
+parse-requires c κs = record-long (now (c .before .before .args .b)) (passed (now (c .before .before .args .b)) (c .before .before .pre .0) .is)
+
+fixed-up-requires : tie.Need-fixed-up-requires
+fixed-up-requires c κs = search needs
 
 refusal-of-requires : tie.Need-refusal-of-requires
 refusal-of-requires c κs = search needs
@@ -11,24 +20,32 @@ resolve-requires : tie.Need-resolve-requires
 resolve-requires c κs = search needs
 
 put-log-requires : tie.Need-put-log-requires
-put-log-requires c κs = rw (c .before .resolve .ensures) (fits (c .before .before .before .before .before .args .fixed) (c .before .before .before .before .before .args .f) (c .before .before .before .before .before .pre))
+put-log-requires c κs = rw (c .before .resolve .ensures) (fits (c .before .before .before .before .fixed-up .result) (c .before .before .before .before .before .before .before .before .args .f) (c .before .before .before .before .before .before .before .before .pre .1))
 
 same-length : tie.Need-same-length
 same-length c = search needs
 
 returns : tie.Need-returns
-returns c = done (c .before .before .before .before .before .before .before .before .args .fixed) (c .before .before .before .before .before .before .before .before .args .f) (now (c .before .before .before .before .before .before .before .before .args .log)) (c .before .before .before .before .before .before .before .before .pre) (c .before .before .before .before .before .before .refusal-of .ensures) (c .before .before .before .before .before .match .keys1) (rw (c .before .before .before .before .resolve .ensures) at (c .before .before .put-log .ensures))
+returns c =
+    done (c .before .before .before .before .before .before .before .fixed-up .result) (c .before .before .before .before .before .before .before .before .before .before .before .args .f) (now (c .before .before .before .before .before .before .before .before .before .before .before .args .log)) (c .before .before .before .before .before .before .before .before .before .before .before .pre .1) (c .before .before .before .before .before .before .refusal-of .ensures) (c .before .before .before .before .before .match .keys1) (rw (c .before .before .before .before .resolve .ensures) at (c .before .before .put-log .ensures))
+    ∙ rw (c .before .before .before .before .before .before .before .fixed-up .ensures) (visited (now (c .before .before .before .before .before .before .before .before .before .before .before .args .b)) (now (c .before .before .before .before .before .before .before .before .before .before .before .args .log)) 0 (c .before .before .before .before .before .before .before .before .before .before .before .args .f) (c .before .before .before .before .before .before .before .before .before .before .before .pre .0) (c .before .before .before .before .before .before .before .before .parse .ensures))
 
 returns-2 : tie.Need-returns-2
-returns-2 c = is-complex (c .before .before .before .args .fixed) (c .before .before .before .args .f) (now (c .before .before .before .args .log)) (c .before .before .before .pre) (c .before .refusal-of .ensures) (c .match .keys2)
+returns-2 c =
+    is-complex (c .before .before .fixed-up .result) (c .before .before .before .before .before .before .args .f) (now (c .before .before .before .before .before .before .args .log)) (c .before .before .before .before .before .before .pre .1) (c .before .refusal-of .ensures) (c .match .keys2)
+    ∙ rw (c .before .before .fixed-up .ensures) (visited (now (c .before .before .before .before .before .before .args .b)) (now (c .before .before .before .before .before .before .args .log)) 0 (c .before .before .before .before .before .before .args .f) (c .before .before .before .before .before .before .pre .0) (c .before .before .before .parse .ensures))
 
 returns-3 : tie.Need-returns-3
-returns-3 c = is-refused (c .before .before .before .args .fixed) (c .before .before .before .args .f) (now (c .before .before .before .args .log)) (c .before .before .before .pre) (c .before .refusal-of .ensures) (c .match .rest .0 .1) (c .match .rest .1)
+returns-3 c =
+    is-refused (c .before .before .fixed-up .result) (c .before .before .before .before .before .before .args .f) (now (c .before .before .before .before .before .before .args .log)) (c .before .before .before .before .before .before .pre .1) (c .before .refusal-of .ensures) (c .match .rest .0 .1) (c .match .rest .1)
+    ∙ rw (c .before .before .fixed-up .ensures) (visited (now (c .before .before .before .before .before .before .args .b)) (now (c .before .before .before .before .before .before .args .log)) 0 (c .before .before .before .before .before .before .args .f) (c .before .before .before .before .before .before .pre .0) (c .before .before .before .parse .ensures))
 
 pub visit-record-spec : {M : Type 1} → statement M
 visit-record-spec =
     tie.close
     (tie.spec
+    parse-requires
+    fixed-up-requires
     refusal-of-requires
     resolve-requires
     put-log-requires
