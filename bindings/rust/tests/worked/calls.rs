@@ -117,3 +117,11 @@ pub fn machhurel_watch_step(watch: &mut [u64; 10], record: &[u8], file: &[u8]) -
 pub fn machhurel_verdict(address: u64, length: u64, log: &[u8], at: usize) -> u64 {
     unsafe { ffi::machhurel_verdict(address, length, log.as_ptr(), log.len(), at) }
 }
+
+pub fn machhurel_fetch_judge(records: &[u8], each: usize, set: u32) -> u64 {
+    unsafe { ffi::machhurel_fetch_judge(records.as_ptr(), records.len(), each, set) }
+}
+
+pub fn machhurel_fetch_propose(records: &[u8], each: usize) -> u64 {
+    unsafe { ffi::machhurel_fetch_propose(records.as_ptr(), records.len(), each) }
+}

@@ -5,6 +5,7 @@ mod calls;
 mod differences;
 mod digests;
 mod events;
+mod fetches;
 mod levels;
 mod listings;
 mod rows;
