@@ -1,27 +1,17 @@
 //! A block of records against single calls: each record visited by itself, and what document 02 says of their answers.
 mod common;
 
+use common::calls::machhurel_block;
 use common::Random;
 use machhurel::*;
 
 /// The bytes of a buffer before a call.
 const BEFORE: u8 = 0xEE;
 
-/// Up to two operands of any spec and access, flags and lists; sometimes of another kind, complex, nameless or without a size.
+/// Any record, and any opcode; sometimes of another kind, complex, outside its tables or without a size.
 fn any_record(random: &mut Random) -> Vec<u8> {
-    let mut record = vec![0u8; RECORD_BYTES];
-    record[..4].copy_from_slice(&[0x10, random.below(256) as u8, random.below(256) as u8, 0]);
-    record[3] = random.below(3) as u8;
-    record[4] = random.one_of(&[0, 1, 2, 18, 24, 26, 30, 35]);
-    record[5] = random.one_of(&[1, 2, 18, 24, 26, 30, 35]);
-    for slot in 0..4 {
-        record[9 + 2 * slot] = random.below(16) as u8;
-    }
-    record[16] = random.one_of(&[1, 2, 4, 8, 64]);
-    record[17] = random.one_of(&[1, 2, 4, 8]);
-    record[36] = random.below(4) as u8 * 4;
-    record[37] = random.below(16) as u8;
-    record[38] = random.one_of(&[0, 0, 1, 5, 26, 27]);
+    let mut record = common::inputs::any_record(random);
+    record[1..3].copy_from_slice(&(random.next() as u16).to_le_bytes());
     match random.below(12) {
         0 => record[16] = 0,
         1 => record[0] = random.one_of(&[0, 0x20, 0xFF]),
@@ -51,21 +41,7 @@ fn block(
     answers: usize,
 ) -> Left {
     let (mut log, mut told) = (vec![BEFORE; room], vec![BEFORE; answers]);
-    // SAFETY: each pointer and length are those of a slice.
-    let answer = unsafe {
-        ffi::machhurel_block(
-            records.as_ptr(),
-            records.len(),
-            each,
-            file.as_ptr(),
-            file.len(),
-            log.as_mut_ptr(),
-            log.len(),
-            start,
-            told.as_mut_ptr(),
-            told.len(),
-        )
-    };
+    let answer = machhurel_block(records, each, file, &mut log, start, &mut told);
     (answer, log, told)
 }
 

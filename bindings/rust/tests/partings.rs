@@ -2,8 +2,9 @@
 //! events alone.
 mod common;
 
+use common::calls::machhurel_difference;
 use common::Random;
-use machhurel::{difference, ffi, Difference, Event, Events, Register};
+use machhurel::{difference, Difference, Event, Events, Register};
 
 /// Which registers a log may name: asked of the event call, which the oracle judges by the given Rust.
 struct Banks(Vec<[bool; 256]>);
@@ -68,16 +69,7 @@ fn expected(banks: &Banks, first: &[u8], second: &[u8]) -> (u8, bool, usize) {
 
 fn answered(first: &[u8], second: &[u8]) -> (u8, bool, usize) {
     let mut at = u64::MAX;
-    // SAFETY: each pointer and length are those of a slice.
-    let answer = unsafe {
-        ffi::machhurel_difference(
-            first.as_ptr(),
-            first.len(),
-            second.as_ptr(),
-            second.len(),
-            &mut at,
-        )
-    };
+    let answer = machhurel_difference(first, second, &mut at);
     assert_eq!(answer >> 9, 0, "bits that are not named are 0");
     (answer as u8, answer & 0x100 != 0, at as usize)
 }

@@ -1,6 +1,7 @@
 //! A log session against a second reading: after every call the log is read from its start, byte by byte, as FORMAT lays events out.
 mod common;
 
+use common::calls::machhurel_append;
 use common::Random;
 use machhurel::*;
 
@@ -22,23 +23,12 @@ fn read_whole(log: &[u8]) -> (u64, u64) {
     (events, unknown)
 }
 
-/// Up to two operands of any spec and access, flags and lists; sometimes damaged, complex or without a size.
+/// Any record; sometimes cut, complex, outside its tables or without a size.
 fn any_record(random: &mut Random) -> Vec<u8> {
-    let mut record = vec![0u8; RECORD_BYTES];
-    record[..4].copy_from_slice(&[0x10, 40, 0, random.below(3) as u8]);
-    record[4] = random.one_of(&[1, 2, 18, 24, 26, 30, 35]);
-    record[5] = random.one_of(&[1, 2, 18, 24, 26, 30, 35]);
-    for slot in 0..4 {
-        record[9 + 2 * slot] = random.below(16) as u8;
-    }
-    record[16] = random.one_of(&[1, 2, 4, 8, 64]);
-    record[17] = random.one_of(&[1, 2, 4, 8]);
-    record[36] = random.below(4) as u8 * 4;
-    record[37] = random.below(16) as u8;
-    record[38] = random.one_of(&[0, 0, 1, 5, 26, 27]);
+    let mut record = common::inputs::any_record(random);
     match random.below(16) {
         0 => record[16] = 0,
-        1 => record.truncate(random.below(RECORD_BYTES as u64) as usize),
+        1 => record.truncate(random.index(RECORD_BYTES)),
         2 => record[36] |= 0x20,
         3 => record[3] = 5,
         _ => {}
@@ -124,18 +114,7 @@ fn counts_are_those_of_the_whole_log() {
 
 /// One append by the C call: its answer, the words and the buffer after it.
 fn append(mut words: [u64; 3], record: &[u8], file: &[u8], log: &mut [u8]) -> (u64, [u64; 3]) {
-    // SAFETY: the words are ours alone, and each pointer and length are those of a slice.
-    let answer = unsafe {
-        ffi::machhurel_append(
-            &mut words,
-            record.as_ptr(),
-            record.len(),
-            file.as_ptr(),
-            file.len(),
-            log.as_mut_ptr(),
-            log.len(),
-        )
-    };
+    let answer = machhurel_append(&mut words, record, file, log);
     (answer, words)
 }
 

@@ -1,6 +1,7 @@
 //! A sheet against a second reading of document 02's words, over the bytes of the logs: nothing of the library but the two calls is asked.
 mod common;
 
+use common::calls::{machhurel_sheet_add as add, machhurel_sheet_new as new};
 use common::Random;
 use machhurel::*;
 use std::collections::HashSet;
@@ -103,16 +104,6 @@ fn naive_add(words: &Words, log: &[u8]) -> (u64, Words) {
         Ok(more) => (0, std::array::from_fn(|i| words[i].wrapping_add(more[i]))),
         Err(number) => refused(number),
     }
-}
-
-fn add(words: &mut Words, log: &[u8]) -> u64 {
-    // SAFETY: the words are ours alone; the pointer and the length are those of a slice.
-    unsafe { ffi::machhurel_sheet_add(words, log.as_ptr(), log.len()) }
-}
-
-fn new(words: &mut Words, address: u64, length: u64) -> u64 {
-    // SAFETY: the words are ours alone.
-    unsafe { ffi::machhurel_sheet_new(words, address, length) }
 }
 
 const ADDRESSES: [u64; 4] = [0x1008, 0, u64::MAX - 3, 1 << 63];

@@ -1,6 +1,7 @@
 //! A watch against a second reading of document 02's words: every byte by itself, in sets.
 mod common;
 
+use common::calls::{machhurel_watch_new, machhurel_watch_step};
 use common::Random;
 use machhurel::*;
 use std::collections::HashSet;
@@ -223,23 +224,14 @@ fn lengths_that_no_variable_has() {
     for length in [0, 9, 256, 264, 1 << 32, u64::MAX] {
         assert_eq!(Watch::new(0x1000, length), Err(Refusal::Field));
         let mut words = [5u64; 10];
-        let answer = unsafe { ffi::machhurel_watch_new(&mut words, 0x1000, length) };
+        let answer = machhurel_watch_new(&mut words, 0x1000, length);
         assert_eq!((answer, words), (2, [5; 10]));
     }
 }
 
 /// A step on words as they stand.
 fn raw_step(words: &mut [u64; 10], (record, file): &Pair) -> u64 {
-    // SAFETY: the words are ours alone; each pointer and length are those of a slice.
-    unsafe {
-        ffi::machhurel_watch_step(
-            words,
-            record.as_ptr(),
-            record.len(),
-            file.as_ptr(),
-            file.len(),
-        )
-    }
+    machhurel_watch_step(words, record, file)
 }
 
 #[test]
@@ -289,11 +281,7 @@ fn any_words_get_an_answer() {
 #[test]
 fn the_limit_is_tested_before_the_look() {
     let mut words = [0u64; 10];
-    // SAFETY: the words are ours alone.
-    assert_eq!(
-        unsafe { ffi::machhurel_watch_new(&mut words, 0x1000, 8) },
-        0
-    );
+    assert_eq!(machhurel_watch_new(&mut words, 0x1000, 8), 0);
     words[2] = WATCH_PAIRS - 1;
     let damaged = (vec![], vec![]);
     assert_eq!(raw_step(&mut words, &damaged), 0x100);

@@ -1,6 +1,9 @@
 //! What several tests share.
 #![allow(dead_code)] // no test uses all of it
 
+pub mod calls;
+pub mod inputs;
+
 /// A small generator with a fixed seed: xorshift.
 pub struct Random(pub u64);
 

@@ -1,8 +1,8 @@
 //! The numbers that each call can be refused with, and the bits of its answers: those of the tables, and no others, over many inputs.
+use crate::common::calls::*;
 use crate::common::Random;
 use crate::document::{number, range, table};
 use crate::subject::{full, record};
-use machhurel::ffi::*;
 use machhurel::EVERYDAY_RECORD_BYTES;
 use std::collections::{BTreeMap, BTreeSet};
 
@@ -58,30 +58,22 @@ fn answers() -> BTreeMap<&'static str, Vec<u64>> {
     let mut seen: BTreeMap<_, Vec<u64>> = BTreeMap::new();
     for _ in 0..CASES {
         let (r, f) = (any_record(&mut random), any_file(&mut random));
-        let (at, n) = (r.as_ptr(), r.len());
         let mut out = vec![0; random.index(200)];
-        let (start, lent, long) = (random.index(64), out.as_mut_ptr(), out.len());
-        // SAFETY: each pointer and length are those of one vector.
-        let answered = unsafe {
-            let visited = machhurel_visit(at, n, f.as_ptr(), f.len(), lent, long, start);
-            [
-                ("machhurel_visit", visited),
-                // the log that is there now, or zeros
-                ("machhurel_event", machhurel_event(lent, long, start)),
-                (
-                    "machhurel_listing",
-                    machhurel_listing(at, n, lent, long, start),
-                ),
-                ("machhurel_digest", machhurel_digest(at, n)),
-                ("machhurel_privilege", machhurel_privilege(at, n)),
-                ("machhurel_exceptions", machhurel_exceptions(at, n)),
-            ]
-        };
+        let start = random.index(64);
+        let answered = [
+            ("machhurel_visit", machhurel_visit(&r, &f, &mut out, start)),
+            // the log that is there now, or zeros
+            ("machhurel_event", machhurel_event(&out, start)),
+            ("machhurel_listing", machhurel_listing(&r, &mut out, start)),
+            ("machhurel_digest", machhurel_digest(&r)),
+            ("machhurel_privilege", machhurel_privilege(&r)),
+            ("machhurel_exceptions", machhurel_exceptions(&r)),
+        ];
         for (call, answer) in answered {
             seen.entry(call).or_default().push(answer);
         }
         let torn = [random.below(8) as u8, random.below(16) as u8, 0x41];
-        let event = unsafe { machhurel_event(torn.as_ptr(), 3, 0) };
+        let event = machhurel_event(&torn, 0);
         seen.entry("machhurel_event").or_default().push(event);
     }
     seen

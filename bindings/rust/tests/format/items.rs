@@ -1,21 +1,13 @@
 //! The table of listing items: which bytes an item has, and how many.
+use crate::common::calls::machhurel_listing;
 use crate::document::{section, table};
 use crate::subject::record;
-use machhurel::{ffi, LISTING_BYTES};
+use machhurel::LISTING_BYTES;
 
 /// The bytes that a record lists as.
 fn listed(changes: &[(usize, u8)]) -> Vec<u8> {
     let (record, mut out) = (record(changes), [0u8; LISTING_BYTES]);
-    // SAFETY: each pointer and length are those of one array.
-    let answer = unsafe {
-        ffi::machhurel_listing(
-            record.as_ptr(),
-            record.len(),
-            out.as_mut_ptr(),
-            out.len(),
-            0,
-        )
-    };
+    let answer = machhurel_listing(&record, &mut out, 0);
     assert_eq!(answer as u32, 0);
     out[..(answer >> 32) as usize].to_vec()
 }

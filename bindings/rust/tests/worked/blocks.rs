@@ -1,5 +1,5 @@
 //! A block of records: its answer, and all bytes of both buffers.
-use crate::calls::machhurel_block;
+use crate::common::calls::machhurel_block;
 use crate::rows::report;
 use crate::samples::knowing;
 use crate::samples::one;

@@ -4,7 +4,7 @@ use crate::samples::*;
 use machhurel::RECORD_BYTES;
 
 fn row(name: &str, x: [u8; RECORD_BYTES], answer: u64) {
-    report(name, crate::calls::machhurel_digest(&x) == answer);
+    report(name, crate::common::calls::machhurel_digest(&x) == answer);
 }
 
 fn prefixed(name: &str, opcode: u8, prefixes: u8, answer: u64) {
@@ -104,12 +104,12 @@ fn refused() {
 fn lengths() {
     let mut x = [0u8; 41];
     x[0] = 0x10;
-    let short = crate::calls::machhurel_digest(&x[..39]);
+    let short = crate::common::calls::machhurel_digest(&x[..39]);
     report("digest of 39 bytes", short == 1);
-    let right = crate::calls::machhurel_digest(&x[..40]);
+    let right = crate::common::calls::machhurel_digest(&x[..40]);
     report("digest of 40 bytes", right == 0);
-    let long = crate::calls::machhurel_digest(&x);
+    let long = crate::common::calls::machhurel_digest(&x);
     report("digest of 41 bytes", long == 1);
-    let none = crate::calls::machhurel_digest(b"");
+    let none = crate::common::calls::machhurel_digest(b"");
     report("digest of no byte", none == 1);
 }

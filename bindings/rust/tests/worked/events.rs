@@ -3,7 +3,10 @@ use crate::rows::report;
 use crate::visits::P2_LOG;
 
 fn row(name: &str, log: &[u8], at: usize, answer: u64) {
-    report(name, crate::calls::machhurel_event(log, at) == answer);
+    report(
+        name,
+        crate::common::calls::machhurel_event(log, at) == answer,
+    );
 }
 
 #[test]

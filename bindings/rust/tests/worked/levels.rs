@@ -9,11 +9,17 @@ const GP: u64 = 0x2000_0000_0000;
 const PF: u64 = 0x4000_0000_0000;
 
 fn level(name: &str, x: [u8; RECORD_BYTES], answer: u64) {
-    report(name, crate::calls::machhurel_privilege(&x) == answer);
+    report(
+        name,
+        crate::common::calls::machhurel_privilege(&x) == answer,
+    );
 }
 
 fn raises(name: &str, x: [u8; RECORD_BYTES], answer: u64) {
-    report(name, crate::calls::machhurel_exceptions(&x) == answer);
+    report(
+        name,
+        crate::common::calls::machhurel_exceptions(&x) == answer,
+    );
 }
 
 #[test]

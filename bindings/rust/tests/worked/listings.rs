@@ -7,7 +7,7 @@ use machhurel::RECORD_BYTES;
 
 fn row_in(name: &str, x: [u8; RECORD_BYTES], room: usize, start: usize, answer: u64, bytes: &[u8]) {
     let mut out = [0xEEu8; BUFFER];
-    let given = crate::calls::machhurel_listing(&x, &mut out[..room], start);
+    let given = crate::common::calls::machhurel_listing(&x, &mut out[..room], start);
     report(name, given == answer && holds(&out, start, bytes));
 }
 

@@ -1,7 +1,7 @@
 //! A log session, call by call: its answer and its three words, and what a reading of the whole log from its start finds.
-use crate::calls::machhurel_append;
-use crate::calls::machhurel_event;
-use crate::calls::machhurel_reset;
+use crate::common::calls::machhurel_append;
+use crate::common::calls::machhurel_event;
+use crate::common::calls::machhurel_reset;
 use crate::rows::report;
 use crate::samples::knowing;
 use crate::samples::one;

@@ -15,7 +15,7 @@ fn row_in(
     bytes: &[u8],
 ) {
     let mut log = [0xEEu8; BUFFER];
-    let given = crate::calls::machhurel_visit(&x, &file, &mut log[..room], start);
+    let given = crate::common::calls::machhurel_visit(&x, &file, &mut log[..room], start);
     report(name, given == answer && holds(&log, start, bytes));
 }
 

@@ -1,7 +1,7 @@
 //! The calls on a watch: ten words, and what a pair or an event did to the variable.
-use crate::calls::machhurel_verdict;
-use crate::calls::machhurel_watch_new;
-use crate::calls::machhurel_watch_step;
+use crate::common::calls::machhurel_verdict;
+use crate::common::calls::machhurel_watch_new;
+use crate::common::calls::machhurel_watch_step;
 use crate::rows::report;
 use crate::samples::knowing;
 use crate::samples::one;

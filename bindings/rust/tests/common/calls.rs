@@ -1,4 +1,4 @@
-//! The C interface with slices, so that a row sees every bit of an answer.
+//! The C interface with slices, so that a test sees every bit of an answer.
 use machhurel::ffi;
 
 pub fn machhurel_visit(record: &[u8], file: &[u8], log: &mut [u8], start: usize) -> u64 {
@@ -116,4 +116,12 @@ pub fn machhurel_watch_step(watch: &mut [u64; 10], record: &[u8], file: &[u8]) -
 
 pub fn machhurel_verdict(address: u64, length: u64, log: &[u8], at: usize) -> u64 {
     unsafe { ffi::machhurel_verdict(address, length, log.as_ptr(), log.len(), at) }
+}
+
+pub fn machhurel_sheet_new(sheet: &mut [u64; 99], address: u64, length: u64) -> u64 {
+    unsafe { ffi::machhurel_sheet_new(sheet, address, length) }
+}
+
+pub fn machhurel_sheet_add(sheet: &mut [u64; 99], log: &[u8]) -> u64 {
+    unsafe { ffi::machhurel_sheet_add(sheet, log.as_ptr(), log.len()) }
 }
