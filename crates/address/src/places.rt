@@ -3,8 +3,6 @@ use crate::values::plus;
 use crate::values::scaled;
 use crate::values::sum;
 use record::Record;
-use registers::FS;
-use registers::GS;
 use registers::RegSpec;
 use registers::RegisterFile;
 use registers::Value;
@@ -24,13 +22,14 @@ pub struct Sources {
     pub segment: Value,
 }
 
-const RBX: RegSpec = RegSpec { bank: 0, number: 3 };
+// General registers, by their numbers.
+const RBX: u8 = 3;
 
-const RSP: RegSpec = RegSpec { bank: 0, number: 4 };
+const RSP: u8 = 4;
 
-const RSI: RegSpec = RegSpec { bank: 0, number: 6 };
+const RSI: u8 = 6;
 
-const RDI: RegSpec = RegSpec { bank: 0, number: 7 };
+const RDI: u8 = 7;
 
 const EDI: RegSpec = RegSpec { bank: 1, number: 7 };
 
@@ -44,10 +43,10 @@ fn implied_place(f: RegisterFile, list: u16) -> Value
 {
     match list {
         15 => f.value(EDI),
-        16 => f.value(RDI),
-        26 => plus(f.value(RSP), MINUS_8),
-        27 => f.value(RSP),
-        28 => sum(f.value(RBX), f.value(AL)),
+        16 => f.general(RDI),
+        26 => plus(f.general(RSP), MINUS_8),
+        27 => f.general(RSP),
+        28 => sum(f.general(RBX), f.value(AL)),
         _ => Value::Unknown,
     }
 }
@@ -57,9 +56,9 @@ fn segment_base(f: RegisterFile, segment: u8) -> Value
     ensures { λ r. ⌜ r ≡ valueOf f (segmentRegister segment) ⌝ }
 {
     if segment == 1 {
-        f.value(FS)
+        f.base(0)
     } else {
-        f.value(GS)
+        f.base(1)
     }
 }
 
@@ -73,8 +72,8 @@ pub fn resolve(f: RegisterFile, x: Record) -> Sources
     Sources {
         base: base,
         index: scaled(index, x.scale),
-        rdi: f.value(RDI),
-        rsi: f.value(RSI),
+        rdi: f.general(RDI),
+        rsi: f.general(RSI),
         implied: implied_place(f, x.digest.extra),
         segment: segment_base(f, x.segment),
     }

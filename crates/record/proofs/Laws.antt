@@ -20,6 +20,7 @@ use Rattle.everyday.proofs.Laws.{held}
 use Rattle.record.specs.Records.{recordKind, segmentKind, everydayKind, everydayBytes, recordBytes, segmentBytes, recordLength, isRecord, RecordLong, broughtDigest, recordDigest, recordOf, outside, lacksDigest, recordTests, recordRefusal, recordAnswer, noRecord, specAt, regAt}
 use Rattle.record.specs.declared.Record.{Record}
 use Rattle.record.specs.declared.RecordAnswer.{RecordAnswer}
+use Rattle.record.specs.Halves.{plainRecord, completedRecord}
 
 -- four tests, joined as code joins them
 pub some-of-four : (a b c d : Bool) → (a || b || c || d) ≡ (a || (b || (c || (d || false))))
@@ -175,3 +176,8 @@ module _ (b : List ℕ) {r : RecordAnswer} (e : r ≡ recordAnswer b) where
 
   pub read-is : r .number ≡ 0 → r .read ≡ recordOf b
   read-is z = ap (λ (a : RecordAnswer). a .read) e ∙ answer-read b (sym number-is ∙ z)
+
+-- a record in its two halves
+pub halves : (b : List ℕ) → completedRecord (plainRecord b) b ≡ recordOf b
+unfolding recordOf plainRecord completedRecord
+halves b = refl

@@ -12,6 +12,7 @@ ghost use Rattle.laws.specs.Words.{bit};
 ghost use Rattle.laws.specs.Tests.{any};
 ghost use Rattle.registers.specs.Banks.{isRegister};
 ghost use Rattle.record.specs.Records.{everydayKind, everydayBytes, recordBytes, recordLength, RecordLong, recordDigest, regFrom, recordOf, lacksDigest, outside, recordRefusal, refusedRecord, recordAnswer, specAt, regAt, vexW, rexW, operandSize, addressSize};
+ghost use Rattle.record.specs.Halves.{plainRecord, completedRecord};
 
 // The kinds of records and their lengths: the second names a segment behind what the first has, the third has no digest.
 pub const RECORD_KIND: u8 = 0x10;
@@ -101,6 +102,14 @@ impl Record {
         requires { ⌜ RecordLong (now b) ⌝ }
         ensures { λ r. ⌜ r ≡ recordOf (now (b .entry)) ⌝ }
     {
+        Record::plain(b).completed(b)
+    }
+
+    // What every kind holds at the same places. It and `completed` are short enough to be inlined, where `parse` is not.
+    pub fn plain(b: &[u8]) -> Record
+        requires { ⌜ RecordLong (now b) ⌝ }
+        ensures { λ r. ⌜ r ≡ plainRecord (now (b .entry)) ⌝ }
+    {
         let specs = [b[4], b[5], b[6], b[7]];
         let regs = [
             reg_from(b, 8),
@@ -108,6 +117,11 @@ impl Record {
             reg_from(b, 12),
             reg_from(b, 14),
         ];
+        let digest = BehaviorDigest {
+            behavior: 0,
+            operands: 0,
+            extra: 0,
+        };
         Record {
             opcode: laws::u16_at(b, 1),
             count: b[3],
@@ -119,9 +133,19 @@ impl Record {
             imm: laws::u64_at(b, 26),
             prefixes: b[34],
             mask: b[35],
-            digest: digest_in(b),
-            segment: segment_in(b),
+            digest: digest,
+            segment: 0,
         }
+    }
+
+    // With what hangs on the kind: the digest and the segment.
+    pub fn completed(mut self, b: &[u8]) -> Record
+        requires { ⌜ RecordLong (now b) ⌝ }
+        ensures { λ r. ⌜ r ≡ completedRecord self (now (b .entry)) ⌝ }
+    {
+        self.digest = digest_in(b);
+        self.segment = segment_in(b);
+        self
     }
 
     // One of four numbers, by a test for each: an array that is asked at a place lies in memory.
