@@ -41,7 +41,8 @@ fn visit_record(b: &[u8], f: RegisterFile, log: &mut [u8]) -> Answer
     requires { ⌜ (recordRefusal (now b) ≡ 0) × (mostBytes ≤ length (now log)) ⌝ }
     ensures { λ r. ⌜ (r, now (log .exit)) ≡ visitUnder (now (b .entry)) f (now (log .entry)) 0 ⌝ }
 {
-    let read = Record::parse(b);
+    let plain = Record::plain(b);
+    let read = plain.completed(b);
     let x = fixups::fixed_up(read);
     let number = refusal_of(x);
     match number {
