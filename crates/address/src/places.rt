@@ -55,11 +55,7 @@ fn implied_place(f: RegisterFile, list: u16) -> Value
 fn segment_base(f: RegisterFile, segment: u8) -> Value
     ensures { λ r. ⌜ r ≡ valueOf f (segmentRegister segment) ⌝ }
 {
-    if segment == 1 {
-        f.base(0)
-    } else {
-        f.base(1)
-    }
+    if segment == 1 { f.base(0) } else { f.base(1) }
 }
 
 // The record is one after fix-ups.
