@@ -3,4 +3,3 @@ mod visit;
 
 pub use visit::MOST_BYTES;
 pub use visit::visit_accesses;
-pub use visit::visit_under;
