@@ -140,11 +140,5 @@ regAt x i = getD (x .regs) i (reg 0 0)
 abbrev pub vexW : Record → Bool
 vexW x = bit (x .prefixes) 0
 
-abbrev pub rexW : Record → Bool
-rexW x = bit (x .prefixes) 1
-
-abbrev pub operandSize : Record → Bool
-operandSize x = bit (x .prefixes) 2
-
 abbrev pub addressSize : Record → Bool
 addressSize x = bit (x .prefixes) 3

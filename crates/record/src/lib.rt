@@ -11,7 +11,7 @@ ghost use Rattle.digest.specs.Digests.{digestIn};
 ghost use Rattle.laws.specs.Words.{bit};
 ghost use Rattle.laws.specs.Tests.{any};
 ghost use Rattle.registers.specs.Banks.{isRegister};
-ghost use Rattle.record.specs.Records.{everydayKind, everydayBytes, recordBytes, recordLength, RecordLong, recordDigest, regFrom, recordOf, lacksDigest, outside, recordRefusal, refusedRecord, recordAnswer, specAt, regAt, vexW, rexW, operandSize, addressSize};
+ghost use Rattle.record.specs.Records.{everydayKind, everydayBytes, recordBytes, recordLength, RecordLong, recordDigest, regFrom, recordOf, lacksDigest, outside, recordRefusal, refusedRecord, recordAnswer, specAt, vexW, addressSize};
 ghost use Rattle.record.specs.Halves.{plainRecord, completedRecord};
 
 // The kinds of records and their lengths: the second names a segment behind what the first has, the third has no digest.
@@ -161,35 +161,10 @@ impl Record {
         )
     }
 
-    // The four are taken out before one is chosen: else the whole record is copied for it.
-    pub fn reg_at(self, i: u8) -> RegSpec
-        ensures { λ r. ⌜ r ≡ regAt self i ⌝ }
-    {
-        let regs = self.regs;
-        let k = i as usize;
-        if k < 4 {
-            regs[k]
-        } else {
-            RegSpec { bank: 0, number: 0 }
-        }
-    }
-
     pub fn vex_w(self) -> bool
         ensures { λ r. ⌜ r ≡ vexW self ⌝ }
     {
         has_bit(self.prefixes, 0)
-    }
-
-    pub fn rex_w(self) -> bool
-        ensures { λ r. ⌜ r ≡ rexW self ⌝ }
-    {
-        has_bit(self.prefixes, 1)
-    }
-
-    pub fn operand_size(self) -> bool
-        ensures { λ r. ⌜ r ≡ operandSize self ⌝ }
-    {
-        has_bit(self.prefixes, 2)
     }
 
     pub fn address_size(self) -> bool
@@ -297,7 +272,7 @@ fn reg_from(b: &[u8], i: usize) -> RegSpec
     }
 }
 
-// Whether some number of a record is outside its table. All tests are made, so that no branch is taken between them.
+// Whether some number of a record is outside its table.
 fn is_outside(b: &[u8]) -> bool
     requires { ⌜ RecordLong (now b) ⌝ }
     ensures { λ r. ⌜ r ≡ outside (recordOf (now (b .entry))) ⌝ }
@@ -324,14 +299,32 @@ fn has_bad_spec(b: &[u8]) -> bool
     requires { ⌜ everydayBytes ≤ length (now b) ⌝ }
     ensures { λ r. ⌜ r ≡ any (λ s. ltb 35 s) (recordOf (now (b .entry)) .specs) ⌝ }
 {
-    (35 < b[4]) | (35 < b[5]) | (35 < b[6]) | (35 < b[7])
+    if 35 < b[4] {
+        return true;
+    }
+    if 35 < b[5] {
+        return true;
+    }
+    if 35 < b[6] {
+        return true;
+    }
+    35 < b[7]
 }
 
 fn has_bad_reg(b: &[u8]) -> bool
     requires { ⌜ everydayBytes ≤ length (now b) ⌝ }
     ensures { λ r. ⌜ r ≡ any (λ y. not (isRegister (y .bank) (y .number))) (recordOf (now (b .entry)) .regs) ⌝ }
 {
-    is_bad(b[8], b[9]) | is_bad(b[10], b[11]) | is_bad(b[12], b[13]) | is_bad(b[14], b[15])
+    if is_bad(b[8], b[9]) {
+        return true;
+    }
+    if is_bad(b[10], b[11]) {
+        return true;
+    }
+    if is_bad(b[12], b[13]) {
+        return true;
+    }
+    is_bad(b[14], b[15])
 }
 
 fn is_bad(bank: u8, number: u8) -> bool
