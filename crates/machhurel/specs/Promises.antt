@@ -15,6 +15,8 @@ use Rattle.session.specs.Words.{sessionIn, inWords, emptyWords}
 use Rattle.totals.specs.Sheets as sheet
 use Rattle.watching.specs.Traces.{newOf, stepOf}
 use Rattle.watching.specs.Verdicts.{variable, nameAt}
+use Rattle.fetching.specs.Judging.{judgeCall, proposeCall}
+use Rattle.fetch.specs.Answers.{judgementBits, proposalBits}
 use Rattle.answers.specs.Answers.{packed, digestBits, privilegeBits, exceptionBits, eventBits, differenceBits}
 use Rattle.watch_words.specs.Bits.{steppedBits, namingBits}
 use Rattle.watch_words.specs.Words.{watchIn, wordsOf, newWords}
@@ -23,7 +25,7 @@ use Rattle.watch_words.specs.Words.{watchIn, wordsOf, newWords}
 -- So are those of the count of a log's events.
 abbrev pub EveryExportDetermined : Type 0
 EveryExportDetermined =
-    (b f p words : List ℕ) (s address length : ℕ)
+    (b f p words : List ℕ) (s address length each set : ℕ)
     → OneOutcome (packed (visitOf b f p s))
     × OneOutcome (packed (listingCall b p s))
     × OneOutcome (digestBits (digestCall b))
@@ -40,3 +42,5 @@ EveryExportDetermined =
     × OneOutcome (inBits (blockCall length b f p s words))
     × OneOutcome (sheet.newOf words address length)
     × OneOutcome (sheet.addOf words p)
+    × OneOutcome (judgementBits (judgeCall b each set))
+    × OneOutcome (proposalBits (proposeCall b each))
