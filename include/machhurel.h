@@ -256,12 +256,12 @@ uint64_t machhurel_sheet_new(machhurel_sheet *sheet, uint64_t address, uint64_t 
 uint64_t machhurel_sheet_add(machhurel_sheet *sheet, const uint8_t *log, size_t log_len);
 
 /*
- * Judges a set of registers for a list of records, one after another, `each` bytes long, a record's length of one kind: MACHHUREL_ACCEPTED where
- * no bit above 18 is set and every register that enters the address of a logged memory access is in the set, for each record that a visit
- * under a good file with room does not refuse. A register counts as its full one: ah as rax, eip as rip. Of the set every such record is
- * visited alike under a file and under the same file that knows no more than the set. Not accepted and no bit above 18: MACHHUREL_LACKED is
- * the lowest bit that the first lacking record lacks, MACHHUREL_LACKING that record's number. Refuses 1 where `each` is no record's length
- * or the bytes are no multiple of it, 2 for more than MACHHUREL_BLOCK_RECORDS records.
+ * Judges a set of registers for a list of records, one after another, `each` bytes long: MACHHUREL_ACCEPTED where no bit above 18 is set
+ * and every register that enters the address of a logged memory access is in the set, for each record that a visit under a good file with
+ * room does not refuse. A register counts as its full one: ah as rax, eip as rip. Under an accepted set every record of the list is
+ * visited alike, answer and log, under a file and under the same file that knows no register outside the set. Not accepted and no bit
+ * above 18: MACHHUREL_LACKED is the lowest bit that the first lacking record lacks, MACHHUREL_LACKING that record's number. Refuses 1 where
+ * `each` is no record's length or the bytes are no multiple of it, 2 for more than MACHHUREL_BLOCK_RECORDS records.
  */
 uint64_t machhurel_fetch_judge(const uint8_t *records, size_t records_len, size_t each, uint32_t set);
 

@@ -112,7 +112,7 @@ fn put_needs(output: &mut Output, kind: Kind, walk: &Walk, needs: &Needs) {
             put!(out, "    refused, not counted  {refused}\n");
         }
         Kind::Csv => {
-            let (name, registers) = (csv_quoted(name), names.join(" "));
+            let (name, registers) = (csv_quoted(name), names.join(";"));
             put!(out, "{name},{records},{refused},0x{set:05x},{registers}\n");
         }
         Kind::Json => {

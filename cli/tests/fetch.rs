@@ -4,11 +4,13 @@ use common::{folder, golden, pipe, run, spoilt, torn, Ran, Random, TORN};
 use machhurel::*;
 
 #[test]
-fn the_sample_in_each_format() {
-    for format in ["text", "csv", "json"] {
-        let ran = run(&["fetch", "--format", format, TORN]);
-        assert_eq!((ran.status, ran.errors.as_str()), (Some(0), ""));
-        golden(&format!("torn.fetch.{format}"), &ran.output);
+fn the_samples_in_each_format() {
+    for (name, path) in [("torn", TORN), ("thread", "samples/thread.trace")] {
+        for format in ["text", "csv", "json"] {
+            let ran = run(&["fetch", "--format", format, path]);
+            assert_eq!((ran.status, ran.errors.as_str()), (Some(0), ""));
+            golden(&format!("{name}.fetch.{format}"), &ran.output);
+        }
     }
 }
 
@@ -51,7 +53,7 @@ fn expected(name: &str, trace: &[u8]) -> String {
         "{name},{},{refused},0x{:05x},{}\n",
         records.len(),
         set.0,
-        names.join(" ")
+        names.join(";")
     )
 }
 
@@ -76,7 +78,7 @@ fn a_trace_longer_than_a_list_is_united() {
         let ran = piped(&trace);
         assert_eq!((ran.status, ran.errors.as_str()), (Some(0), ""));
         let said = format!(
-            "standard input,{},{},0x08018,rbx rsp r15\n",
+            "standard input,{},{},0x08018,rbx;rsp;r15\n",
             10 * n + 1,
             2 * n
         );

@@ -1,28 +1,10 @@
 //! Which registers to fetch for a list of records.
 use crate::ffi;
+use crate::file::Known;
 use crate::refusal::Refusal;
-use crate::register::Register;
-use core::fmt;
 
 /// A set has so many bits.
-pub const SET_BITS: u8 = 19;
-
-/// A register that a file can know, by its known bit: 0 to 15 rax, rcx, rdx, rbx, rsp, rbp, rsi, rdi, r8 to r15; 16 rip; 17 and 18 the
-/// bases of fs and gs.
-#[derive(Clone, Copy, Debug, PartialEq, Eq, PartialOrd, Ord, Hash)]
-pub struct KnownBit(pub u8);
-
-impl fmt::Display for KnownBit {
-    fn fmt(&self, f: &mut fmt::Formatter<'_>) -> fmt::Result {
-        match self.0 {
-            0..=15 => Register::quad(self.0).say(f),
-            16 => Register { bank: 9, number: 0 }.say(f),
-            17 => f.write_str("fs base"),
-            18 => f.write_str("gs base"),
-            bit => write!(f, "bit {bit}"),
-        }
-    }
-}
+pub const SET_BITS: u8 = Known::ALL.len() as u8;
 
 /// A set of registers, by their known bits.
 #[derive(Clone, Copy, Debug, Default, PartialEq, Eq, Hash)]
@@ -30,8 +12,8 @@ pub struct RegisterSet(pub u32);
 
 impl RegisterSet {
     /// Whether a register is in the set.
-    pub const fn has(self, register: KnownBit) -> bool {
-        register.0 < 32 && self.0 >> register.0 & 1 == 1
+    pub const fn has(self, register: Known) -> bool {
+        self.0 >> register as u8 & 1 == 1
     }
 
     /// The registers of both sets: what is proposed for two lists together.
@@ -41,8 +23,10 @@ impl RegisterSet {
     }
 
     /// The registers of the set, the lowest bit first.
-    pub fn registers(self) -> impl Iterator<Item = KnownBit> {
-        (0..32).map(KnownBit).filter(move |bit| self.has(*bit))
+    pub fn registers(self) -> impl Iterator<Item = Known> {
+        Known::ALL
+            .into_iter()
+            .filter(move |register| self.has(*register))
     }
 }
 
@@ -58,7 +42,7 @@ pub enum Judgement {
         /// The first record that lacks one, by its number in the list, from 0.
         record: usize,
         /// The lowest that it lacks.
-        register: KnownBit,
+        register: Known,
     },
 }
 
@@ -82,7 +66,7 @@ pub enum Judgement {
 /// assert_eq!(set.registers().next().map(|register| register.to_string()), Some("rbx".to_string()));
 ///
 /// assert_eq!(fetch_judge(&record, RECORD_BYTES, set)?, Judgement::Accepted);
-/// let lacking = Judgement::Lacking { record: 0, register: KnownBit(3) };
+/// let lacking = Judgement::Lacking { record: 0, register: Known::Rbx };
 /// assert_eq!(fetch_judge(&record, RECORD_BYTES, RegisterSet(0x1))?, lacking);
 /// assert_eq!(fetch_judge(&record, RECORD_BYTES, RegisterSet(1 << 19))?, Judgement::NoSuchBit);
 /// assert_eq!(fetch_judge(&record, 39, set), Err(Refusal::Form));
@@ -102,7 +86,8 @@ pub fn fetch_judge(records: &[u8], each: usize, set: RegisterSet) -> Result<Judg
     } else {
         Judgement::Lacking {
             record: (answer >> 32) as usize,
-            register: KnownBit((answer >> 16) as u8),
+            // a record needs no other bit
+            register: Known::ALL[usize::from((answer >> 16) as u8)],
         }
     })
 }

@@ -142,7 +142,7 @@ fn judged(records: &[Vec<u8>], set: u32) -> Judgement {
     for (record, bytes) in records.iter().enumerate() {
         let lacked = needed(bytes) & !set;
         if lacked != 0 {
-            let register = KnownBit(lacked.trailing_zeros() as u8);
+            let register = Known::ALL[lacked.trailing_zeros() as usize];
             return Judgement::Lacking { record, register };
         }
     }
@@ -209,6 +209,20 @@ fn nothing_is_lost() {
         short += u32::from(matches!(answer, Err(Refusal::Room { .. })));
     }
     assert!(short > 1_000, "{short}");
+}
+
+#[test]
+fn a_set_says_its_registers_by_name() {
+    let all = RegisterSet((1 << HELD) - 1).registers();
+    let names: Vec<_> = all.map(|register| register.to_string()).collect();
+    assert_eq!(
+        names.join(" "),
+        "rax rcx rdx rbx rsp rbp rsi rdi r8 r9 r10 r11 r12 r13 r14 r15 rip fs base gs base"
+    );
+    for (k, register) in Known::ALL.into_iter().enumerate() {
+        assert!(RegisterSet(1 << k).registers().eq([register]));
+    }
+    assert_eq!(RegisterSet(1 << HELD).registers().count(), 0);
 }
 
 #[test]
