@@ -9,7 +9,7 @@ use lib.Dec.{ltb, eqb}
 use borrow.Author.Tests.{le-ltb, ltb-false, eqb-true, eqb-false, ne-eqb}
 use Rattle.laws.specs.Words.{bit}
 use Rattle.laws.specs.Lists.{each, flat}
-use Rattle.registers.specs.Files.{partOf, slotOf, partValue, valueOf}
+use Rattle.registers.specs.Files.{fileOf, partOf, slotOf, partValue, valueOf}
 use Rattle.registers.specs.declared.RegSpec.{RegSpec}
 use Rattle.registers.specs.declared.RegisterFile.{RegisterFile}
 use Rattle.registers.specs.declared.Value.the-variants.{Known, Unknown}
@@ -22,7 +22,7 @@ use Rattle.promises.proofs.Refine.{address-agrees, based-agrees}
 use Rattle.sets.proofs.Bits.{bits-are}
 use Rattle.fetching.specs.Needs.{heldRegisters, slotsOf, accessNeeds, stepNeeds, refusalAlone, needsOf}
 use Rattle.fetching.specs.Judging.{restricted}
-use Rattle.fetching.specs.Promises.{placeUnder, AlikeOn, RestrictedIs, NothingLost, RestrictedSuffices}
+use Rattle.fetching.specs.Promises.{placeUnder, AlikeOn, RestrictedIs, NothingLost, RestrictedSuffices, CallsLoseNothing}
 use Rattle.fetching.proofs.Members.{each-mem}
 use Rattle.fetching.proofs.Alone.{never-7, refused-anyhow}
 use Rattle.fetching.proofs.Judged.{judge-is-right}
@@ -125,3 +125,7 @@ restricted-is v f k = (λ e. slot-restricted v f k ∙ rw e, λ e. slot-restrict
 pub restricted-suffices : RestrictedSuffices
 restricted-suffices v bs f e b m buffer start =
     nothing-lost v bs f (restricted v f) e (λ k h. sym (restricted-is v f k .0 h)) b m .0 buffer start
+
+pub calls-lose-nothing : CallsLoseNothing
+calls-lose-nothing v bs f g good-f good-g e alike b m buffer start =
+    rw (good-f, good-g) (nothing-lost v bs (fileOf f) (fileOf g) e alike b m .0 buffer start)

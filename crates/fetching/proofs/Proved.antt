@@ -38,6 +38,9 @@ nothing-lost = lost.nothing-lost
 pub restricted-suffices : promised.RestrictedSuffices
 restricted-suffices = lost.restricted-suffices
 
+pub calls-lose-nothing : promised.CallsLoseNothing
+calls-lose-nothing = lost.calls-lose-nothing
+
 pub nothing-spare : promised.NothingSpare
 nothing-spare = spare.nothing-spare
 

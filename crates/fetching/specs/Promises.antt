@@ -7,7 +7,7 @@ use mathlib.Core.List.{List, [], _++_, List·Memᴰ}
 use mathlib.Core.Bool.{true, false, _&&_, _||_}
 use lib.ListN.{length, getD}
 use Rattle.laws.specs.Words.{bit}
-use Rattle.registers.specs.Files.{partOf, slotOf}
+use Rattle.registers.specs.Files.{fileOf, isFile, partOf, slotOf}
 use Rattle.registers.specs.declared.RegSpec.{RegSpec}
 use Rattle.registers.specs.declared.RegisterFile.{RegisterFile}
 use Rattle.registers.specs.declared.Value.{Value}
@@ -16,7 +16,7 @@ use Rattle.implicit.specs.declared.Way.{Way}
 use Rattle.definition.specs.Addresses.{registersOf, addressOf, segmentRegisters, basedOf}
 use Rattle.definition.specs.Limits.{mostBytes}
 use Rattle.definition.specs.Steps.{touches, stepsOf}
-use Rattle.definition.specs.Visits.{fixedRecord, logOf, visitUnder, numberOf}
+use Rattle.definition.specs.Visits.{fixedRecord, logOf, visitUnder, visitOf, numberOf}
 use Rattle.definition.specs.declared.Address.{Address}
 use Rattle.fetching.specs.Needs.{heldRegisters, refusalAlone, needsOf}
 use Rattle.fetching.specs.Judging.{setBits, allIn, accepts, judge, proposed, restricted, allKnown}
@@ -95,6 +95,14 @@ RestrictedSuffices =
     (v : ℕ) (bs : List RecordBytes) (f : RegisterFile) → accepts v bs ≡ true
     → (b : RecordBytes) → List·Memᴰ b bs
     → (buffer : List ℕ) (start : ℕ) → visitUnder b f buffer start ≡ visitUnder b (restricted v f) buffer start
+
+-- And so the call, over the bytes of two good files: what they hold beyond the set makes no difference.
+abbrev pub CallsLoseNothing : Type 0
+CallsLoseNothing =
+    (v : ℕ) (bs : List RecordBytes) (f g : List ℕ) → isFile f ≡ true → isFile g ≡ true
+    → accepts v bs ≡ true → AlikeOn v (fileOf f) (fileOf g)
+    → (b : RecordBytes) → List·Memᴰ b bs
+    → (buffer : List ℕ) (start : ℕ) → visitOf b f buffer start ≡ visitOf b g buffer start
 
 -- where an access lies under a file, by its segment and its address
 abbrev pub placeUnder : RegisterFile → ℕ → Address → Value
