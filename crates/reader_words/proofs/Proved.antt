@@ -197,3 +197,11 @@ other-words-stop w l = go (sameWords (wordsOf (toldBy w)) w readerWords) refl
         let n = long-words (toldBy w) in
         inl (ext-getD 0 (wordsOf (toldBy w)) w (n ∙ sym l) (λ i k. one-by-one (wordsOf (toldBy w)) w readerWords e i (omega arith)))
     go false e = inr refl
+
+bit-small : (t : Bool) → cond t 1 0 < 2
+bit-small true = omega arith
+bit-small false = omega arith
+
+pub call-unpacks : promised.CallUnpacks
+call-unpacks a k o n =
+    (omega (arith, bit-small (a .finished)), omega (arith, bit-small (a .finished)), omega (arith, bit-small (a .finished)), omega (arith, bit-small (a .finished)))

@@ -1,14 +1,17 @@
 -- WHAT IS PROMISED of a reader's words, each statement after its sentence. proofs/Proved.antt proves them.
-use Prim.Native.Nat.{ℕ}
+use Prim.Native.Nat.{ℕ, _^_, _<_}
 use mathlib.Core.Path.{_≡_}
 use mathlib.Core.Logic.{_⊎_}
 use mathlib.Core.List.{List, []}
+use mathlib.Core.Bool.{cond}
 use lib.ListN.{length}
+use Rattle.answers.specs.Promises.{bitsAt}
 use Rattle.event.specs.Held.{Bytes}
 use Rattle.streams.specs.Cuts.{halted}
 use Rattle.streams.specs.Streams.{StreamReader}
 use Rattle.streams.specs.Promises.{Sound}
-use Rattle.reader_words.specs.Words.{readerWords, wordsOf, readerBy}
+use Rattle.streams.specs.declared.Call.{Call}
+use Rattle.reader_words.specs.Words.{readerWords, wordsOf, readerBy, callBits}
 
 -- A reader that calls leave is read back from its words: so calls over words are calls over readers. (Crate `streams` has that calls
 -- leave sound readers sound, and bytes bytes.)
@@ -18,3 +21,12 @@ WordsAreKept = (r : StreamReader) → Sound r → Bytes (r .kept) → Bytes (r .
 -- Words that are those of no reader count as a stopped one.
 abbrev pub OtherWordsStop : Type 0
 OtherWordsStop = (w : List ℕ) → length w ≡ readerWords → (wordsOf (readerBy w) ≡ w) ⊎ (readerBy w ≡ halted [])
+
+-- A CALL'S ANSWER UNPACKS. Its number, the opcode, whether something finished and n are read back from its bits.
+abbrev pub CallUnpacks : Type 0
+CallUnpacks =
+    (a : Call) → a .number < 2 ^ 8 → a .opcode < 2 ^ 16 → a .n < 2 ^ 32
+    → (bitsAt 0 8 (callBits a) ≡ a .number)
+    × (bitsAt 8 16 (callBits a) ≡ a .opcode)
+    × (bitsAt 24 1 (callBits a) ≡ cond (a .finished) 1 0)
+    × (bitsAt 32 32 (callBits a) ≡ a .n)
