@@ -15,9 +15,10 @@ use Rattle.laws.proofs.Choice.{and-left, and-right}
 use Rattle.registers.specs.Files.{numbersFrom, isFile}
 use Rattle.event.specs.Held.{Bytes}
 use Rattle.streams.specs.Cuts.{halted}
-use Rattle.streams.specs.Streams.{lengthOf, StreamReader}
+use Rattle.streams.specs.Streams.{lengthOf, StreamReader, fresh, feed}
 use Rattle.streams.specs.Promises.{Sound}
-use Rattle.reader.specs.Held.{itemRoom, isPart, isLatest, holdsPart, holdsFile, readerIn}
+use Rattle.streams.proofs.Proved.{fresh-is-sound, calls-take, bytes-stay}
+use Rattle.reader.specs.Held.{itemRoom, isPart, isLatest, holdsPart, holdsFile, readerIn, handedTo}
 use Rattle.reader.proofs.Sound.{kind-short, file-short}
 use Rattle.reader_words.specs.Words.{readerWords, placeWords, bytesFrom, bytesIn, wordsIn, wordsOf, toldBy, sameWords, readerBy}
 use Rattle.reader_words.specs.Promises as promised
@@ -174,6 +175,19 @@ unfolding readerBy
 words-are-kept r s hk hf =
     let e : toldBy (wordsOf r) ≡ r = ap toldBy (words-are r) ∙ told-is r s hk hf in
     rw (e, same-as-itself (wordsOf r) readerWords)
+
+no-bytes : Bytes []
+no-bytes i = omega arith
+
+pub new-is-fresh : promised.NewIsFresh
+new-is-fresh = words-are-kept fresh fresh-is-sound no-bytes no-bytes
+
+pub calls-go-on : promised.CallsGoOn
+unfolding handedTo
+calls-go-on r c log start s hk hf hc =
+    let room = length log - start in
+    let b = bytes-stay r c room (s .parted) hk hf hc in
+    words-are-kept (feed r c room .next) (calls-take r c room s .1) (b .0) (b .1)
 
 by-last : (v w : List ℕ) (n i : ℕ) → eqb (getD v n 0) (getD w n 0) ≡ true → i < suc n → (i < n → getD v i 0 ≡ getD w i 0) → getD v i 0 ≡ getD w i 0
 by-last v w n i h l rest = go (eqb i n) refl

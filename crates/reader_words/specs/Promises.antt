@@ -8,15 +8,25 @@ use lib.ListN.{length}
 use Rattle.answers.specs.Promises.{bitsAt}
 use Rattle.event.specs.Held.{Bytes}
 use Rattle.streams.specs.Cuts.{halted}
-use Rattle.streams.specs.Streams.{StreamReader}
+use Rattle.streams.specs.Streams.{StreamReader, fresh}
 use Rattle.streams.specs.Promises.{Sound}
 use Rattle.streams.specs.declared.Call.{Call}
-use Rattle.reader_words.specs.Words.{readerWords, wordsOf, readerBy, callBits}
+use Rattle.reader.specs.Held.{handedTo}
+use Rattle.reader_words.specs.Words.{readerWords, wordsOf, readerBy, callBits, freshWords}
 
 -- A reader that calls leave is read back from its words: so calls over words are calls over readers. (Crate `streams` has that calls
 -- leave sound readers sound, and bytes bytes.)
 abbrev pub WordsAreKept : Type 0
 WordsAreKept = (r : StreamReader) → Sound r → Bytes (r .kept) → Bytes (r .file) → readerBy (wordsOf r) ≡ r
+
+-- So from a new reader on, whatever chunks of bytes are handed over, the words that a call leaves are the reader that it leaves.
+abbrev pub NewIsFresh : Type 0
+NewIsFresh = readerBy (freshWords .1) ≡ fresh
+
+abbrev pub CallsGoOn : Type 0
+CallsGoOn =
+    (r : StreamReader) (c log : List ℕ) (start : ℕ) → Sound r → Bytes (r .kept) → Bytes (r .file) → Bytes c
+    → readerBy (wordsOf (handedTo r c log start .next)) ≡ handedTo r c log start .next
 
 -- Words that are those of no reader count as a stopped one.
 abbrev pub OtherWordsStop : Type 0
