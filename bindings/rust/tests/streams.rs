@@ -175,16 +175,27 @@ fn any_file(random: &mut Random) -> Vec<u8> {
     file
 }
 
-/// A stream of items; often cut short, and sometimes with a byte changed, put in or taken out.
-fn any_stream(random: &mut Random) -> Vec<u8> {
-    let mut stream = Vec::new();
-    for _ in 0..random.below(12) {
-        let item = match random.below(3) {
-            0 => any_file(random),
-            _ => any_record(random),
-        };
-        stream.extend(item);
+fn any_item(random: &mut Random) -> Vec<u8> {
+    match random.below(3) {
+        0 => any_file(random),
+        _ => any_record(random),
     }
+}
+
+const RECORDED: [&[u8]; 2] = [
+    include_bytes!("../../../samples/torn.trace"),
+    include_bytes!("../../../samples/thread.trace"),
+];
+
+/// A recorded stream or one of random items; often cut short, and sometimes with a byte changed, put in or taken out.
+fn any_stream(random: &mut Random) -> Vec<u8> {
+    let mut stream = match random.below(4) {
+        0 => random.one_of(&RECORDED).to_vec(),
+        _ => {
+            let items = random.below(12);
+            (0..items).flat_map(|_| any_item(random)).collect()
+        }
+    };
     if stream.is_empty() {
         return stream;
     }
@@ -234,18 +245,19 @@ fn however_a_stream_is_cut() {
 
 #[test]
 fn a_recorded_stream_cut_anywhere_in_two() {
-    let stream = include_bytes!("../../../samples/torn.trace");
-    let (answers, end) = read_whole(stream);
     let mut random = Random(0x0700_4EA4);
-    for cut in 0..=stream.len() {
-        let mut first = true;
-        let mut sizes = |_: &mut Random| {
-            let size = if first { cut } else { stream.len() };
-            first = false;
-            size
-        };
-        let (found, closed, _) = read_in_chunks(stream, &mut sizes, &mut random);
-        assert_eq!((&found, closed), (&answers, end), "cut at {cut}");
+    for stream in RECORDED {
+        let (answers, end) = read_whole(stream);
+        for cut in 0..=stream.len() {
+            let mut first = true;
+            let mut sizes = |_: &mut Random| {
+                let size = if first { cut } else { stream.len() };
+                first = false;
+                size
+            };
+            let (found, closed, _) = read_in_chunks(stream, &mut sizes, &mut random);
+            assert_eq!((&found, closed), (&answers, end), "cut at {cut}");
+        }
     }
 }
 
