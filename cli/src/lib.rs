@@ -36,6 +36,7 @@ mod progress;
 mod show;
 mod source;
 mod status;
+mod stream;
 mod summary;
 mod terminal;
 mod walk;
