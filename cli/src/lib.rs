@@ -37,6 +37,7 @@ mod progress;
 mod show;
 mod source;
 mod status;
+mod stream;
 mod summary;
 mod terminal;
 mod walk;

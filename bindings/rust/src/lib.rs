@@ -50,6 +50,7 @@ mod register;
 mod session;
 mod sheet;
 mod spec;
+mod stream;
 mod watch;
 
 pub use access::Access;
@@ -72,6 +73,7 @@ pub use register::{bank_name, Register, BANK_COUNT};
 pub use session::Session;
 pub use sheet::{Sheet, SHEET_LOGS, SHEET_LOG_BYTES};
 pub use spec::Spec;
+pub use stream::{End, Handed, Reader, Told};
 pub use watch::{verdict, Named, Names, Step, Tally, Verdict, Watch, WATCH_PAIRS};
 
 /// The bytes of a record of kind 0x10.

@@ -3,5 +3,5 @@ use Rattle.laws.proofs.Outcomes.{one-outcome}
 use Rattle.machhurel.specs.Promises as promised
 
 pub every-export-determined : promised.EveryExportDetermined
-every-export-determined b f p words s address length each set =
-    (one-outcome _, one-outcome _, one-outcome _, one-outcome _, one-outcome _, one-outcome _, one-outcome _, one-outcome _, one-outcome _, one-outcome _, one-outcome _, one-outcome _, one-outcome _, one-outcome _, one-outcome _, one-outcome _, one-outcome _, one-outcome _)
+every-export-determined b f p words s address length =
+    (one-outcome _, one-outcome _, one-outcome _, one-outcome _, one-outcome _, one-outcome _, one-outcome _, one-outcome _, one-outcome _, one-outcome _, one-outcome _, one-outcome _, one-outcome _, one-outcome _, one-outcome _, one-outcome _, one-outcome _, one-outcome _, one-outcome _, one-outcome _, one-outcome _)

@@ -13,6 +13,8 @@ use Rattle.block.specs.Blocks.{blockCall}
 use Rattle.session.specs.Sessions.{appended}
 use Rattle.session.specs.Words.{sessionIn, inWords, emptyWords}
 use Rattle.totals.specs.Sheets as sheet
+use Rattle.reader.specs.Held.{handedTo}
+use Rattle.reader_words.specs.Words.{readerBy, handedWords, freshWords, closedWords}
 use Rattle.watching.specs.Traces.{newOf, stepOf}
 use Rattle.watching.specs.Verdicts.{variable, nameAt}
 use Rattle.fetching.specs.Judging.{judgeCall, proposeCall}
@@ -25,7 +27,7 @@ use Rattle.watch_words.specs.Words.{watchIn, wordsOf, newWords}
 -- So are those of the count of a log's events.
 abbrev pub EveryExportDetermined : Type 0
 EveryExportDetermined =
-    (b f p words : List ℕ) (s address length each set : ℕ)
+    (b f p words : List ℕ) (s address length : ℕ)
     → OneOutcome (packed (visitOf b f p s))
     × OneOutcome (packed (listingCall b p s))
     × OneOutcome (digestBits (digestCall b))
@@ -42,5 +44,8 @@ EveryExportDetermined =
     × OneOutcome (inBits (blockCall length b f p s words))
     × OneOutcome (sheet.newOf words address length)
     × OneOutcome (sheet.addOf words p)
-    × OneOutcome (judgementBits (judgeCall b each set))
-    × OneOutcome (proposalBits (proposeCall b each))
+    × OneOutcome (judgementBits (judgeCall b length address))
+    × OneOutcome (proposalBits (proposeCall b length))
+    × OneOutcome freshWords
+    × OneOutcome (handedWords (handedTo (readerBy words) b p s))
+    × OneOutcome (closedWords (readerBy words))
