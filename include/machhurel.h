@@ -21,9 +21,11 @@
  * Refusal numbers, tested in this order; a refused call changes no byte of a buffer, and but for what 4 and 7 carry every other part
  * of its answer is 0:
  *
- *   1  the record's kind is unknown, or its length is not the kind's; in a log: an unknown kind, or an event cut short
+ *   1  the record's kind is unknown, or its length is not the kind's; in a log: an unknown kind, or an event cut short;
+ *      of a block or list of records: no record's length, or bytes that are no multiple of it
  *   2  a field of the record is outside its table; in a log: a bad register, or a size outside 1 to 64; of a watch: a length outside
- *      1 to 8, or a pair past the limit; of a sheet: such a length, or a log over 65,536 bytes; a block of more than 1,000 records
+ *      1 to 8, or a pair past the limit; of a sheet: such a length, or a log over 65,536 bytes; a block or list of more than 1,000
+ *      records
  *   9  the record is of kind 0x12, and its opcode has no base digest
  *   3  the file's kind is unknown, its length is not the kind's, or a known bit above the kind's last is set
  *   4  the instruction is complex: its accesses are not a plain list. The answer carries the opcode
@@ -144,6 +146,17 @@ typedef struct machhurel_watch {
 /* machhurel_verdict: 0 no memory write, 1 unknown address, 2 none, 3 part, 4 whole; and bit i for byte i of the variable. */
 #define MACHHUREL_VERDICT(answer) MACHHUREL_CAST(unsigned, (((answer) >> 8) & 0xFF))
 #define MACHHUREL_TOUCHED(answer) MACHHUREL_CAST(uint8_t, (((answer) >> 16) & 0xFF))
+
+/* A set has a bit for each register that a file can know (0-15 rax to r15, 16 rip), and 17 and 18 for the bases of fs and gs. */
+#define MACHHUREL_SET_BITS 19
+
+/* machhurel_fetch_judge: 1 where the set is accepted; else the lowest bit that the first lacking record lacks, and its number from 0. */
+#define MACHHUREL_ACCEPTED(answer) MACHHUREL_CAST(unsigned, (((answer) >> 8) & 1))
+#define MACHHUREL_LACKED(answer) MACHHUREL_CAST(unsigned, (((answer) >> 16) & 0xFF))
+#define MACHHUREL_LACKING(answer) MACHHUREL_CAST(uint32_t, ((answer) >> 32))
+
+/* machhurel_fetch_propose: the set. */
+#define MACHHUREL_SET(answer) MACHHUREL_CAST(uint32_t, ((answer) >> 32))
 
 /*
  * An acceptance sheet: totals over all events of the logs taken so far. machhurel_sheet_new writes it, and machhurel_sheet_add goes on with
@@ -276,6 +289,19 @@ uint64_t machhurel_sheet_new(machhurel_sheet *sheet, uint64_t address, uint64_t 
  * nothing.
  */
 uint64_t machhurel_sheet_add(machhurel_sheet *sheet, const uint8_t *log, size_t log_len);
+
+/*
+ * Judges a set of registers for a list of records, one after another, `each` bytes long: MACHHUREL_ACCEPTED where no bit above 18 is set
+ * and every register that enters the address of a logged memory access is in the set, for each record that a visit under a good file with
+ * room does not refuse. A register counts as its full one: ah as rax, eip as rip. Under an accepted set every record of the list is
+ * visited alike, answer and log, under a file and under the same file that knows no register outside the set. Not accepted and no bit
+ * above 18: MACHHUREL_LACKED is the lowest bit that the first lacking record lacks, MACHHUREL_LACKING that record's number. Refuses 1 where
+ * `each` is no record's length or the bytes are no multiple of it, 2 for more than MACHHUREL_BLOCK_RECORDS records.
+ */
+uint64_t machhurel_fetch_judge(const uint8_t *records, size_t records_len, size_t each, uint32_t set);
+
+/* The least set that machhurel_fetch_judge accepts for the list, in MACHHUREL_SET. Refuses 1, 2 as it does. */
+uint64_t machhurel_fetch_propose(const uint8_t *records, size_t records_len, size_t each);
 
 #ifdef __cplusplus
 }

@@ -24,6 +24,7 @@ mod choice;
 pub mod command;
 pub mod completion;
 mod difference;
+mod fetch;
 mod format;
 pub mod help;
 mod line;

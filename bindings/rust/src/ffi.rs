@@ -82,4 +82,11 @@ extern "C" {
         log_len: usize,
         at: usize,
     ) -> u64;
+    pub fn machhurel_fetch_judge(
+        records: *const u8,
+        records_len: usize,
+        each: usize,
+        set: u32,
+    ) -> u64;
+    pub fn machhurel_fetch_propose(records: *const u8, records_len: usize, each: usize) -> u64;
 }

@@ -36,6 +36,7 @@ mod calls;
 mod difference;
 pub mod digits;
 mod event;
+mod fetch;
 pub mod ffi;
 mod file;
 mod item;
@@ -59,6 +60,7 @@ pub use calls::{
 };
 pub use difference::{difference, Difference};
 pub use event::{Event, Events};
+pub use fetch::{fetch_judge, fetch_propose, Judgement, RegisterSet, SET_BITS};
 pub use file::{check_file, known, Known, RegisterFile};
 pub use item::{Broken, Class, Item, Items, KINDS};
 pub use listing::{Listed, Listing, Operand};

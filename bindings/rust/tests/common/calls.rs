@@ -153,3 +153,11 @@ pub fn machhurel_sheet_new(sheet: &mut [u64; 99], address: u64, length: u64) -> 
 pub fn machhurel_sheet_add(sheet: &mut [u64; 99], log: &[u8]) -> u64 {
     unsafe { ffi::machhurel_sheet_add(sheet, log.as_ptr(), log.len()) }
 }
+
+pub fn machhurel_fetch_judge(records: &[u8], each: usize, set: u32) -> u64 {
+    unsafe { ffi::machhurel_fetch_judge(records.as_ptr(), records.len(), each, set) }
+}
+
+pub fn machhurel_fetch_propose(records: &[u8], each: usize) -> u64 {
+    unsafe { ffi::machhurel_fetch_propose(records.as_ptr(), records.len(), each) }
+}
