@@ -2,9 +2,9 @@
  * Machhurel: which registers and which memory an x86-64 instruction touched, in order.
  *
  * Every call takes bytes and answers one 64-bit number. Any bytes at any length get an answer: no call fails, traps, allocates or keeps
- * anything, and calls may run on any thread at once as long as no two write the same buffer, session, watch or sheet. A pointer may be
- * NULL where its length is 0. Otherwise it points to that many bytes, and a buffer, session, watch or sheet that is written overlaps no
- * other argument.
+ * anything, and calls may run on any thread at once as long as no two write the same buffer, session, watch, sheet or reader. A pointer
+ * may be NULL where its length is 0. Otherwise it points to that many bytes, and a buffer, session, watch, sheet or reader that is
+ * written overlaps no other argument.
  *
  * Records are 40 bytes of kind 0x10, 41 of kind 0x11 or 36 of kind 0x12, register files 141 bytes of kind 0x20 or 157 of kind 0x21;
  * numbers are little-endian. docs/FORMAT.md has every field, table and rule.
@@ -21,15 +21,18 @@
  * Refusal numbers, tested in this order; a refused call changes no byte of a buffer, and but for what 4 and 7 carry every other part
  * of its answer is 0:
  *
- *   1  the record's kind is unknown, or its length is not the kind's; in a log: an unknown kind, or an event cut short
+ *   1  the record's kind is unknown, or its length is not the kind's; in a log: an unknown kind, or an event cut short;
+ *      of a block or list of records: no record's length, or bytes that are no multiple of it
  *   2  a field of the record is outside its table; in a log: a bad register, or a size outside 1 to 64; of a watch: a length outside
- *      1 to 8, or a pair past the limit; of a sheet: such a length, or a log over 65,536 bytes; a block of more than 1,000 records
+ *      1 to 8, or a pair past the limit; of a sheet: such a length, or a log over 65,536 bytes; a block or list of more than 1,000
+ *      records
  *   9  the record is of kind 0x12, and its opcode has no base digest
  *   3  the file's kind is unknown, its length is not the kind's, or a known bit above the kind's last is set
  *   4  the instruction is complex: its accesses are not a plain list. The answer carries the opcode
  *   5  an operand that is accessed names no register or memory, or a string list names no string slot
  *   6  memory is accessed and the record's memory size is 0
  *   7  the start lies past the buffer's end, or the buffer has too little room behind it. The answer carries the bytes needed
+ *   8  machhurel_reader_close alone: the stream ends inside an item
  *  10  the sheet takes no more logs
  */
 #ifndef MACHHUREL_H
@@ -60,7 +63,10 @@ extern "C" {
 /* Every answer: the refusal number, 0 for none (for machhurel_event also MACHHUREL_FINISHED). */
 #define MACHHUREL_NUMBER(answer) MACHHUREL_CAST(unsigned, ((answer) & 0xFF))
 
-/* machhurel_visit, machhurel_append, machhurel_listing: the bytes written, after refusal 7 those needed; and after refusal 4 the opcode. */
+/*
+ * machhurel_visit, machhurel_append, machhurel_listing, machhurel_reader_read: the bytes written, after refusal 7 those needed; and after
+ * refusal 4 the opcode.
+ */
 #define MACHHUREL_COUNT(answer) MACHHUREL_CAST(uint32_t, ((answer) >> 32))
 #define MACHHUREL_OPCODE(answer) MACHHUREL_CAST(uint16_t, (((answer) >> 8) & 0xFFFF))
 
@@ -95,6 +101,18 @@ typedef struct machhurel_session {
     uint64_t unknown; /* of the events, those of kinds 5 and 6: memory events at an unknown address */
 } machhurel_session;
 
+/* machhurel_reader_read: whether a record or a bad file finished, so that the number and the log are its own. */
+#define MACHHUREL_IS_FINISHED(answer) MACHHUREL_CAST(unsigned, (((answer) >> 24) & 1))
+
+/*
+ * A reader of a stream of files and records: the bytes of the unfinished item, and the latest good file. machhurel_reader_new writes it,
+ * and the other two calls go on with it. What its words mean is not for callers. Any words at all get an answer: words that no call
+ * leaves count as a reader that has stopped.
+ */
+typedef struct machhurel_reader {
+    uint64_t words[48];
+} machhurel_reader;
+
 /*
  * A watched variable, and what the pairs of a trace did to it so far. Pairs are numbered from 0. machhurel_watch_new writes it, and
  * machhurel_watch_step goes on with it. Any words at all get an answer; from machhurel_watch_new on no count wraps.
@@ -128,6 +146,17 @@ typedef struct machhurel_watch {
 /* machhurel_verdict: 0 no memory write, 1 unknown address, 2 none, 3 part, 4 whole; and bit i for byte i of the variable. */
 #define MACHHUREL_VERDICT(answer) MACHHUREL_CAST(unsigned, (((answer) >> 8) & 0xFF))
 #define MACHHUREL_TOUCHED(answer) MACHHUREL_CAST(uint8_t, (((answer) >> 16) & 0xFF))
+
+/* A set has a bit for each register that a file can know (0-15 rax to r15, 16 rip), and 17 and 18 for the bases of fs and gs. */
+#define MACHHUREL_SET_BITS 19
+
+/* machhurel_fetch_judge: 1 where the set is accepted; else the lowest bit that the first lacking record lacks, and its number from 0. */
+#define MACHHUREL_ACCEPTED(answer) MACHHUREL_CAST(unsigned, (((answer) >> 8) & 1))
+#define MACHHUREL_LACKED(answer) MACHHUREL_CAST(unsigned, (((answer) >> 16) & 0xFF))
+#define MACHHUREL_LACKING(answer) MACHHUREL_CAST(uint32_t, ((answer) >> 32))
+
+/* machhurel_fetch_propose: the set. */
+#define MACHHUREL_SET(answer) MACHHUREL_CAST(uint32_t, ((answer) >> 32))
 
 /*
  * An acceptance sheet: totals over all events of the logs taken so far. machhurel_sheet_new writes it, and machhurel_sheet_add goes on with
@@ -216,6 +245,25 @@ uint64_t machhurel_append(machhurel_session *session, const uint8_t *record, siz
 /* Makes the three counts 0; the next append writes at the buffer's start. No byte of a buffer is cleared. Answers 0. */
 uint64_t machhurel_reset(machhurel_session *session);
 
+/* A fresh reader, which has no file. Answers 0. */
+uint64_t machhurel_reader_new(machhurel_reader *reader);
+
+/*
+ * Hands over the next bytes of a stream, as they have arrived. The call ends with the first record or bad file that finishes, before the
+ * byte of an unknown kind, or when all is taken; *taken is how many bytes are, refused too. Hand the rest over again.
+ *
+ * MACHHUREL_IS_FINISHED is 1 where a record or a bad file finished. Then MACHHUREL_NUMBER is 0, and the record's log, which may be empty,
+ * stands in log[start..] as machhurel_visit writes it under the latest good file; or the number is the refusal, 3 for a bad file, which
+ * is not used, and for a record before any good one. Such an item is used up, and reading goes on. A good file does not end the call.
+ * MACHHUREL_IS_FINISHED is 0 where all is taken and more is awaited (0); at an unknown kind (1), whose byte is not taken, and in every
+ * later call: the reader has stopped; and with less than MACHHUREL_LOG_BYTES behind the start (7), before a byte is taken.
+ */
+uint64_t machhurel_reader_read(machhurel_reader *reader, const uint8_t *chunk, size_t chunk_len, uint8_t *log, size_t log_len,
+                               size_t start, uint64_t *taken);
+
+/* Ends the stream: answers 1 of a reader that has stopped, 8 inside an item, else 0. The reader is fresh then, with no file. */
+uint64_t machhurel_reader_close(machhurel_reader *reader);
+
 /* A new watch of the `length` bytes from `address` on, byte addresses modulo two to the 64. Refuses 2 for another length than 1 to 8. */
 uint64_t machhurel_watch_new(machhurel_watch *watch, uint64_t address, uint64_t length);
 
@@ -241,6 +289,19 @@ uint64_t machhurel_sheet_new(machhurel_sheet *sheet, uint64_t address, uint64_t 
  * nothing.
  */
 uint64_t machhurel_sheet_add(machhurel_sheet *sheet, const uint8_t *log, size_t log_len);
+
+/*
+ * Judges a set of registers for a list of records, one after another, `each` bytes long: MACHHUREL_ACCEPTED where no bit above 18 is set
+ * and every register that enters the address of a logged memory access is in the set, for each record that a visit under a good file with
+ * room does not refuse. A register counts as its full one: ah as rax, eip as rip. Under an accepted set every record of the list is
+ * visited alike, answer and log, under a file and under the same file that knows no register outside the set. Not accepted and no bit
+ * above 18: MACHHUREL_LACKED is the lowest bit that the first lacking record lacks, MACHHUREL_LACKING that record's number. Refuses 1 where
+ * `each` is no record's length or the bytes are no multiple of it, 2 for more than MACHHUREL_BLOCK_RECORDS records.
+ */
+uint64_t machhurel_fetch_judge(const uint8_t *records, size_t records_len, size_t each, uint32_t set);
+
+/* The least set that machhurel_fetch_judge accepts for the list, in MACHHUREL_SET. Refuses 1, 2 as it does. */
+uint64_t machhurel_fetch_propose(const uint8_t *records, size_t records_len, size_t each);
 
 #ifdef __cplusplus
 }

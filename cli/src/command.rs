@@ -5,7 +5,7 @@ use crate::name::harmless;
 use crate::nearest::nearest;
 use crate::output::{complain, reason, Output, Unwritten};
 use crate::status::Status;
-use crate::{difference, help, show, summary, watch, VERSION};
+use crate::{difference, fetch, help, show, summary, watch, VERSION};
 use std::ffi::OsString;
 
 /// A command.
@@ -26,10 +26,11 @@ pub struct Command {
 }
 
 /// Every command. A later one is one more row.
-pub const COMMANDS: [&Command; 4] = [
+pub const COMMANDS: [&Command; 5] = [
     &show::COMMAND,
     &summary::COMMAND,
     &watch::COMMAND,
+    &fetch::COMMAND,
     &difference::COMMAND,
 ];
 

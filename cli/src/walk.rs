@@ -3,12 +3,9 @@ use crate::output::{complain, reason};
 use crate::progress::Progress;
 use crate::source::Source;
 use crate::status::Status;
+use crate::stream::{Arrived, Stream};
 use crate::terminal;
-use machhurel::{
-    check_file, known, visit, Class, Known, Refusal, TraceError, TraceReader, FILE_BYTES,
-    LOG_BYTES, RECORD_BYTES,
-};
-use std::io::Read;
+use machhurel::{known, Known, Refusal, TraceError, BASED_FILE_BYTES};
 
 /// What stands at a place of a trace.
 pub(crate) enum Step<'a> {
@@ -23,7 +20,7 @@ pub(crate) enum Step<'a> {
     },
 }
 
-/// What was met, before it is visited.
+/// What was met, without its log.
 pub(crate) enum Met {
     /// A good register file: `Walk::file` has it.
     File,
@@ -37,13 +34,12 @@ pub(crate) struct Walk {
     name: String,
     /// Whether more of it may be long in coming: it is no regular file.
     waits: bool,
-    reader: TraceReader<Box<dyn Read>>,
+    stream: Stream,
     progress: Progress,
-    /// The last good register file; before the first one there are no bytes, which a visit refuses as no file.
+    /// The last good register file; before the first one there are no bytes.
     file: Vec<u8>,
-    /// The last record.
-    record: Vec<u8>,
-    log: [u8; LOG_BYTES],
+    /// The length of the last record's log, or why it was refused.
+    log: Result<usize, Refusal>,
     records: u64,
     damages: u64,
     /// What is wrong and has not been said yet.
@@ -71,10 +67,9 @@ impl Walk {
                     progress: Progress::new(&name, opened.length, shown),
                     name,
                     waits: opened.length.is_none(),
-                    reader: TraceReader::new(opened.bytes),
-                    file: Vec::with_capacity(FILE_BYTES),
-                    record: Vec::with_capacity(RECORD_BYTES),
-                    log: [0; LOG_BYTES],
+                    stream: Stream::new(opened.bytes),
+                    file: Vec::with_capacity(BASED_FILE_BYTES),
+                    log: Ok(0),
                     records: 0,
                     damages: 0,
                     unsaid: None,
@@ -90,7 +85,7 @@ impl Walk {
 
     /// The byte up to which it was read.
     pub(crate) fn at(&self) -> u64 {
-        self.reader.at()
+        self.stream.at()
     }
 
     /// How many records were read.
@@ -113,66 +108,62 @@ impl Walk {
         &self.file
     }
 
-    /// The last record.
+    /// The record that was met, until the next item is.
     pub(crate) fn record(&self) -> &[u8] {
-        &self.record
+        self.stream.item()
     }
 
     /// Whether the next item may be long in coming.
-    pub(crate) fn may_wait(&self) -> bool {
+    pub(crate) fn may_wait(&mut self) -> bool {
         self.waits && !self.is_ready()
     }
 
     /// Whether the next step is at hand. Where it is not, what has been told should be seen meanwhile.
-    pub(crate) fn is_ready(&self) -> bool {
-        self.reader.is_ready()
+    pub(crate) fn is_ready(&mut self) -> bool {
+        self.stream.is_ready()
     }
 
-    /// The next item, not visited; none at the end of the trace, or where it is damaged. What is wrong waits for `complain`.
+    /// The next item; none at the end of the trace, or where it is damaged. What is wrong waits for `complain`.
     pub(crate) fn meet(&mut self) -> Option<Met> {
-        self.progress.tell(self.reader.at(), self.records);
-        let item = match self.reader.next_item() {
-            Ok(item) => item,
+        let at = self.stream.at();
+        self.progress.tell(at, self.records);
+        let arrived = match self.stream.next() {
+            Ok(arrived) => arrived,
             Err(error) => {
-                self.damage(self.reader.at(), &words(&error));
+                self.damage(self.stream.at(), &words(&error));
                 return None;
             }
         };
-        match item {
+        match arrived {
             None => {
                 self.end();
                 None
             }
-            Some(item) if item.class == Class::File => {
-                if let Err(refusal) = check_file(item.bytes) {
-                    let words = format!("damaged: register file {refusal}; not used");
-                    let at = item.at;
-                    self.damage(at, &words);
-                    return Some(Met::BadFile(refusal));
-                }
+            Some(Arrived::BadFile(refusal)) => {
+                let words = format!("damaged: register file {refusal}; not used");
+                self.damage(at, &words);
+                Some(Met::BadFile(refusal))
+            }
+            Some(Arrived::File) => {
                 self.file.clear();
-                self.file.extend_from_slice(item.bytes);
+                self.file.extend_from_slice(self.stream.item());
                 Some(Met::File)
             }
-            Some(item) => {
+            Some(Arrived::Record(log)) => {
                 self.records = self.records.saturating_add(1);
-                self.record.clear();
-                self.record.extend_from_slice(item.bytes);
-                Some(Met::Record(item.opcode().unwrap_or(0)))
+                self.log = log;
+                Some(Met::Record(opcode_of(self.record())))
             }
         }
     }
 
-    /// The next step: the next item, visited where it is a record.
+    /// The next step: the next item, and its log where it is a record.
     pub(crate) fn step(&mut self) -> Option<Step<'_>> {
         Some(match self.meet()? {
             Met::File => Step::File,
             Met::BadFile(refusal) => Step::BadFile(refusal),
             Met::Record(opcode) => {
-                let log = match visit(&self.record, &self.file, &mut self.log, 0) {
-                    Ok(n) => self.log.get(..n).ok_or(Refusal::Room { needed: n }),
-                    Err(refusal) => Err(refusal),
-                };
+                let log = self.log.map(|length| self.stream.log(length));
                 Step::Record { opcode, log }
             }
         })
@@ -211,6 +202,14 @@ impl Walk {
     fn damage(&mut self, at: u64, words: &str) {
         self.damages = self.damages.saturating_add(1);
         self.unsaid = Some(format!("byte {at}, record {}: {words}", self.records));
+    }
+}
+
+/// The opcode of a record.
+fn opcode_of(record: &[u8]) -> u16 {
+    match record {
+        [_, low, high, ..] => u16::from_le_bytes([*low, *high]),
+        _ => 0,
     }
 }
 

@@ -118,6 +118,7 @@ fn help_is_as_kept() {
     golden("help.show.text", &output(&["show", "--help"]));
     golden("help.summary.text", &output(&["summary", "-h"]));
     golden("help.watch.text", &output(&["watch", "-h"]));
+    golden("help.fetch.text", &output(&["fetch", "-h"]));
     golden("help.difference.text", &output(&["difference", "-h"]));
     assert_eq!(output(&["-h"]), output(&["help"]));
     assert_eq!(output(&["help", "show"]), output(&["show", "-h"]));

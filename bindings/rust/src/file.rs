@@ -2,7 +2,9 @@
 use crate::calls::visit;
 use crate::item::length_of;
 use crate::refusal::Refusal;
+use crate::register::Register;
 use crate::{BASED_FILE_BYTES, FILE_BYTES, RECORD_BYTES};
+use core::fmt;
 use core::ops::Deref;
 
 /// A register that a file can know.
@@ -34,6 +36,40 @@ pub enum Known {
 }
 
 impl Known {
+    /// Every one, by its known bit.
+    pub const ALL: [Known; 19] = [
+        Known::Rax,
+        Known::Rcx,
+        Known::Rdx,
+        Known::Rbx,
+        Known::Rsp,
+        Known::Rbp,
+        Known::Rsi,
+        Known::Rdi,
+        Known::R8,
+        Known::R9,
+        Known::R10,
+        Known::R11,
+        Known::R12,
+        Known::R13,
+        Known::R14,
+        Known::R15,
+        Known::Rip,
+        Known::FsBase,
+        Known::GsBase,
+    ];
+
+    /// The same register as a log names it.
+    pub const fn register(self) -> Register {
+        let (bank, number) = match self {
+            Known::Rip => (9, 0),
+            Known::FsBase => (13, 0),
+            Known::GsBase => (13, 1),
+            general => (0, general as u8),
+        };
+        Register { bank, number }
+    }
+
     /// The place of the register's value in a file.
     fn value_at(self) -> core::ops::Range<usize> {
         let begin = 5 + 8 * self as usize;
@@ -48,6 +84,12 @@ impl Known {
     /// The base of a segment.
     fn is_base(self) -> bool {
         matches!(self, Known::FsBase | Known::GsBase)
+    }
+}
+
+impl fmt::Display for Known {
+    fn fmt(&self, f: &mut fmt::Formatter<'_>) -> fmt::Result {
+        self.register().say(f)
     }
 }
 

@@ -36,6 +36,7 @@ mod calls;
 mod difference;
 pub mod digits;
 mod event;
+mod fetch;
 pub mod ffi;
 mod file;
 mod item;
@@ -49,6 +50,7 @@ mod register;
 mod session;
 mod sheet;
 mod spec;
+mod stream;
 mod watch;
 
 pub use access::Access;
@@ -58,6 +60,7 @@ pub use calls::{
 };
 pub use difference::{difference, Difference};
 pub use event::{Event, Events};
+pub use fetch::{fetch_judge, fetch_propose, Judgement, RegisterSet, SET_BITS};
 pub use file::{check_file, known, Known, RegisterFile};
 pub use item::{Broken, Class, Item, Items, KINDS};
 pub use listing::{Listed, Listing, Operand};
@@ -70,6 +73,7 @@ pub use register::{bank_name, Register, BANK_COUNT};
 pub use session::Session;
 pub use sheet::{Sheet, SHEET_LOGS, SHEET_LOG_BYTES};
 pub use spec::Spec;
+pub use stream::{End, Handed, Reader, Told};
 pub use watch::{verdict, Named, Names, Step, Tally, Verdict, Watch, WATCH_PAIRS};
 
 /// The bytes of a record of kind 0x10.

@@ -5,10 +5,11 @@ use core::fmt;
 /// Why a call was refused. A refused call changes no byte of a buffer.
 #[derive(Clone, Copy, Debug, PartialEq, Eq, Hash)]
 pub enum Refusal {
-    /// 1: an unknown kind, or not the kind's length; in a log, an unknown kind or an event cut short.
+    /// 1: an unknown kind, or not the kind's length; in a log, an unknown kind or an event cut short; of a list of records, no record's
+    /// length or bytes that are no multiple of it.
     Form,
     /// 2: a field outside its table; in a log, a bad register or a size outside 1 to 64; of a watch, a length outside 1 to 8 or a pair
-    /// past the limit; of a sheet, such a length or a log over 65,536 bytes.
+    /// past the limit; of a sheet, such a length or a log over 65,536 bytes; of a list, too many records.
     Field,
     /// 3: the register file's kind is unknown, its length is not the kind's, or it knows a register that the kind has not.
     File,

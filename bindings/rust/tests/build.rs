@@ -87,33 +87,15 @@ fn complex_is_said_on_purpose() {
 #[test]
 fn a_file_knows_what_it_was_told() {
     let value = |k: usize| 0x0123_4567_89AB_CDEF_u64.rotate_left(k as u32);
-    let all = [
-        Known::Rax,
-        Known::Rcx,
-        Known::Rdx,
-        Known::Rbx,
-        Known::Rsp,
-        Known::Rbp,
-        Known::Rsi,
-        Known::Rdi,
-        Known::R8,
-        Known::R9,
-        Known::R10,
-        Known::R11,
-        Known::R12,
-        Known::R13,
-        Known::R14,
-        Known::R15,
-        Known::Rip,
-    ];
+    let all = &Known::ALL[..17];
     let mut file = RegisterFile::default();
-    for (k, register) in all.into_iter().enumerate() {
+    for (k, register) in all.iter().copied().enumerate() {
         assert_eq!(known(&file, register), None);
         file = file.with(register, value(k));
         assert_eq!(check_file(&file), Ok(()));
         assert_eq!(file[1..5], (u32::MAX >> (31 - k)).to_le_bytes());
     }
-    for (k, register) in all.into_iter().enumerate() {
+    for (k, register) in all.iter().copied().enumerate() {
         assert_eq!(known(&file, register), Some(value(k)));
     }
     assert_eq!(known(&file[..140], Known::Rax), None);

@@ -83,6 +83,7 @@ fn kinds_lengths_and_bounds() {
     assert_eq!(of("ANSWER_BYTES"), Some(ANSWER_BYTES));
     assert_eq!(of("SHEET_LOGS"), Some(SHEET_LOGS as usize));
     assert_eq!(of("SHEET_LOG_BYTES"), Some(SHEET_LOG_BYTES));
+    assert_eq!(of("SET_BITS"), Some(usize::from(SET_BITS)));
 }
 
 #[test]

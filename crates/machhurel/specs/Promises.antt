@@ -13,8 +13,12 @@ use Rattle.block.specs.Blocks.{blockCall}
 use Rattle.session.specs.Sessions.{appended}
 use Rattle.session.specs.Words.{sessionIn, inWords, emptyWords}
 use Rattle.totals.specs.Sheets as sheet
+use Rattle.reader.specs.Held.{handedTo}
+use Rattle.reader_words.specs.Words.{readerBy, handedWords, freshWords, closedWords}
 use Rattle.watching.specs.Traces.{newOf, stepOf}
 use Rattle.watching.specs.Verdicts.{variable, nameAt}
+use Rattle.fetching.specs.Judging.{judgeCall, proposeCall}
+use Rattle.fetch.specs.Answers.{judgementBits, proposalBits}
 use Rattle.answers.specs.Answers.{packed, digestBits, privilegeBits, exceptionBits, eventBits, differenceBits}
 use Rattle.watch_words.specs.Bits.{steppedBits, namingBits}
 use Rattle.watch_words.specs.Words.{watchIn, wordsOf, newWords}
@@ -40,3 +44,8 @@ EveryExportDetermined =
     × OneOutcome (inBits (blockCall length b f p s words))
     × OneOutcome (sheet.newOf words address length)
     × OneOutcome (sheet.addOf words p)
+    × OneOutcome (judgementBits (judgeCall b length address))
+    × OneOutcome (proposalBits (proposeCall b length))
+    × OneOutcome freshWords
+    × OneOutcome (handedWords (handedTo (readerBy words) b p s))
+    × OneOutcome (closedWords (readerBy words))

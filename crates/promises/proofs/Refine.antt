@@ -94,7 +94,7 @@ module _ (f g : RegisterFile) (more : Extends f g) where
 
 -- the second half
 module _ (f g : RegisterFile) where
-  abbrev agree : List RegSpec → Type 0
+  abbrev pub agree : List RegSpec → Type 0
   agree ys = (y : RegSpec) → List·Memᴰ y ys → valueOf f y ≡ valueOf g y
 
   term-agrees : (t : Term) → agree (termRegisters t) → termOf f t ≡ termOf g t
@@ -103,7 +103,8 @@ module _ (f g : RegisterFile) where
   term-agrees (Plain y) h = h y (List·Memᴰ·head refl)
   term-agrees (Scaled y k) h = rw (h y (List·Memᴰ·head refl))
 
-  address-agrees : (a : Address) → agree (registersOf a) → addressOf f a ≡ addressOf g a
+  -- where an address lies depends on its own registers alone
+  pub address-agrees : (a : Address) → agree (registersOf a) → addressOf f a ≡ addressOf g a
   unfolding addressOf registersOf
   address-agrees a h =
       simp (
@@ -111,7 +112,8 @@ module _ (f g : RegisterFile) where
         term-agrees (a .index) (λ y e. h y (Memᴰ·append-right (termRegisters (a .base)) e)),
       )
 
-  based-agrees : (s : ℕ) (v : Value) → agree (segmentRegisters s) → basedOf f s v ≡ basedOf g s v
+  -- and where an access lies, on the base of its segment beside it
+  pub based-agrees : (s : ℕ) (v : Value) → agree (segmentRegisters s) → basedOf f s v ≡ basedOf g s v
   unfolding basedOf segmentRegisters
   based-agrees s v h = by (eqb s 0) h
     where

@@ -1,7 +1,6 @@
 pub mod Merging
 pub mod Counts
 pub mod Numbers
-pub mod Bits
 pub mod Tables
 pub mod Trust
 pub mod Strength

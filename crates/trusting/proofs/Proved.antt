@@ -9,6 +9,7 @@ use borrow.Author.Tests.{ne-eqb}
 use Rattle.laws.specs.Tests.{isIn}
 use Rattle.definition.specs.Addresses.{word}
 use Rattle.definition.specs.Visits.{numberOf}
+use Rattle.sets.proofs.Bits.{bits-are}
 use Rattle.watching.specs.Verdicts.{bytesFrom, storeTouched}
 use Rattle.watching.specs.Tallies.{noTally, tallyOf}
 use Rattle.watching.specs.Traces.{Pair, mostPairs, answerTo, refusals, loggedBy, verdictsOf, fresh, taken, untaken, stepOf, runFrom, watchOf}
@@ -24,7 +25,6 @@ use Rattle.trusting.specs.Strength as strong
 use Rattle.trusting.proofs.Merging.{watch-is, earlier-never, pairWatch, whole-variable, full-takes, short-takes, step-taken, step-untaken, step-merged, watch-merged, watch-first, watch-bounded, whole-append}
 use Rattle.trusting.proofs.Counts as counts
 use Rattle.trusting.proofs.Numbers as numbers
-use Rattle.trusting.proofs.Bits as bits
 use Rattle.trusting.proofs.Tables as tables
 use Rattle.trusting.proofs.Trust as trust
 use Rattle.trusting.proofs.Strength as strength
@@ -134,7 +134,7 @@ named-as-counted v log at e next w r = sym (named v log at _ w r)
 
 pub bits-are-bytes : promised.BitsAreBytes
 unfolding storeTouched
-bits-are-bytes v a n i = bits.bits-are (λ (i : ℕ). isIn ((v .address + i) % word) (bytesFrom a n)) 0 (v .length) i ∙ rw (zero-add i)
+bits-are-bytes v a n i = bits-are (λ (i : ℕ). isIn ((v .address + i) % word) (bytesFrom a n)) 0 (v .length) i ∙ rw (zero-add i)
 
 pub rows-hold : rows.RowsHold
 rows-hold = tables.rows-hold

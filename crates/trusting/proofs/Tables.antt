@@ -2,7 +2,8 @@
 use mathlib.Core.Path.{refl}
 use Rattle.promises.specs.Rows.{Table}
 use Rattle.promises.proofs.Opened.{opened}
-use Rattle.watching.specs.Verdicts.{bytesFrom, among, judged, storeVerdict, verdictOf, bitsFrom, storeTouched}
+use Rattle.sets.specs.Sets.{bitsFrom}
+use Rattle.watching.specs.Verdicts.{bytesFrom, among, judged, storeVerdict, verdictOf, storeTouched}
 use Rattle.watching.specs.Tallies.{counting, tallyOf, added}
 use Rattle.watching.specs.Traces.{answerTo, loggedBy, verdictsOf, fresh, isTaking, further, untaken, taken, stepOf, runFrom, watchOf}
 use Rattle.trusting.specs.Rows.{verdictAndBytes, stores, position, verdicts, traces, RowsHold}

@@ -1,25 +1,17 @@
 -- Which of the variable's bytes a store touches, as bits. Assumes nothing.
-use Prim.Native.Nat.{ℕ, zero, suc, _+_, _*_, _^_, _≤_, _<_, _-_}
+use Prim.Native.Nat.{ℕ, suc, _+_, _*_, _^_, _≤_, _<_, _-_}
 use native.Mathlib.Omega.{arith}
 use native.Mathlib.Nat.{pow-le-pow-right, sub-self, sub-zero}
 use mathlib.Core.Path.{_≡_}
-use mathlib.Core.Bool.{Bool, true, false, cond}
+use mathlib.Core.Bool.{Bool, true, cond}
 use lib.Dec.{leb}
 use borrow.Author.Tests.{leb-true}
 use Rattle.laws.proofs.Choice.{and-right}
-use Rattle.watching.specs.Verdicts.{isLength, bitsFrom}
-
-one-most : (t : Bool) → cond {A = ℕ} t 1 0 ≤ 1
-one-most true = omega arith
-one-most false = omega arith
+use Rattle.sets.specs.Sets.{bitsFrom}
+use Rattle.sets.proofs.Bits.{bits-below}
+use Rattle.watching.specs.Verdicts.{isLength}
 
 module _ (p : ℕ → Bool) where
-  -- n bits are below two to the n
-  bits-below : (k n : ℕ) → bitsFrom p k n < 2 ^ n
-  unfolding bitsFrom
-  bits-below k zero = omega arith
-  bits-below k (suc n) = omega (arith, one-most (p k), bits-below (k + 1) n)
-
   -- one byte more, below the others
   pub bits-more : (i length : ℕ) → 0 < i → i ≤ length → bitsFrom p (i - 1) (length - (i - 1)) ≡ cond {A = ℕ} (p (i - 1)) 1 0 + 2 * bitsFrom p i (length - i)
   unfolding bitsFrom
@@ -41,4 +33,4 @@ module _ (p : ℕ → Bool) where
       let most = leb-true length 8 (and-right (leb 1 length) (leb length 8) h) in
       let few : length - i ≤ 7 = omega arith in
       let below : 2 ^ (length - i) ≤ 2 ^ 7 = pow-le-pow-right (omega arith) few in
-      omega (arith, bits-below i (length - i), below)
+      omega (arith, bits-below p i (length - i), below)

@@ -1,9 +1,10 @@
 -- How much of a watched variable an event wrote, counted over sets of bytes.
-use Prim.Native.Nat.{ℕ, zero, suc, _+_, _*_, _%_}
+use Prim.Native.Nat.{ℕ, zero, suc, _+_, _%_}
 use mathlib.Core.List.{List, [], _∷_}
 use mathlib.Core.Bool.{Bool, cond, _&&_}
 use lib.Dec.{eqb, leb}
 use Rattle.laws.specs.Tests.{isIn}
+use Rattle.sets.specs.Sets.{bitsFrom}
 use Rattle.definition.specs.Addresses.{word}
 use Rattle.definition.specs.Readings.{readAt}
 use Rattle.definition.specs.declared.Event.{Event}
@@ -56,11 +57,6 @@ verdictNumber AddressUnknown = 1
 verdictNumber NoneTouched = 2
 verdictNumber PartTouched = 3
 verdictNumber WholeTouched = 4
-
--- the n numbers from k on that pass a test, as bits, that of k lowest
-unfoldable pub bitsFrom : (ℕ → Bool) → ℕ → ℕ → ℕ
-bitsFrom p k zero = 0
-bitsFrom p k (suc n) = cond (p k) 1 0 + 2 * bitsFrom p (k + 1) n
 
 -- which of the variable's bytes a store touches: bit i for byte i
 unfoldable pub storeTouched : Variable → ℕ → ℕ → ℕ

@@ -98,6 +98,34 @@ pub fn machhurel_reset(session: &mut [u64; 3]) -> u64 {
     unsafe { ffi::machhurel_reset(session) }
 }
 
+pub fn machhurel_reader_new(reader: &mut [u64; 48]) -> u64 {
+    unsafe { ffi::machhurel_reader_new(reader) }
+}
+
+pub fn machhurel_reader_read(
+    reader: &mut [u64; 48],
+    chunk: &[u8],
+    log: &mut [u8],
+    start: usize,
+    taken: &mut u64,
+) -> u64 {
+    unsafe {
+        ffi::machhurel_reader_read(
+            reader,
+            chunk.as_ptr(),
+            chunk.len(),
+            log.as_mut_ptr(),
+            log.len(),
+            start,
+            taken,
+        )
+    }
+}
+
+pub fn machhurel_reader_close(reader: &mut [u64; 48]) -> u64 {
+    unsafe { ffi::machhurel_reader_close(reader) }
+}
+
 pub fn machhurel_watch_new(watch: &mut [u64; 10], address: u64, length: u64) -> u64 {
     unsafe { ffi::machhurel_watch_new(watch, address, length) }
 }
@@ -124,4 +152,12 @@ pub fn machhurel_sheet_new(sheet: &mut [u64; 99], address: u64, length: u64) -> 
 
 pub fn machhurel_sheet_add(sheet: &mut [u64; 99], log: &[u8]) -> u64 {
     unsafe { ffi::machhurel_sheet_add(sheet, log.as_ptr(), log.len()) }
+}
+
+pub fn machhurel_fetch_judge(records: &[u8], each: usize, set: u32) -> u64 {
+    unsafe { ffi::machhurel_fetch_judge(records.as_ptr(), records.len(), each, set) }
+}
+
+pub fn machhurel_fetch_propose(records: &[u8], each: usize) -> u64 {
+    unsafe { ffi::machhurel_fetch_propose(records.as_ptr(), records.len(), each) }
 }

@@ -6,6 +6,7 @@ mod common;
 mod differences;
 mod digests;
 mod events;
+mod fetches;
 mod levels;
 mod listings;
 mod rows;

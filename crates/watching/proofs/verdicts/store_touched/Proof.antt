@@ -7,7 +7,8 @@ use mathlib.Core.Bool.{Bool}
 use borrow.Author.Needs.{needs}
 use Rattle.laws.specs.Tests.{isIn}
 use Rattle.definition.specs.Addresses.{word}
-use Rattle.watching.specs.Verdicts.{bytesFrom, bitsFrom, storeTouched}
+use Rattle.sets.specs.Sets.{bitsFrom}
+use Rattle.watching.specs.Verdicts.{bytesFrom, storeTouched}
 use Rattle.watching.specs.declared.verdicts.Variable.{Variable}
 use Rattle.watching.proofs.Touched.{none-left, bits-few, bits-more, all-done}
 use Rattle.watching.proofs.verdicts.store_touched.Statement.{statement}

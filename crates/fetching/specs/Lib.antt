@@ -1,0 +1,4 @@
+pub mod Needs
+pub mod Judging
+pub mod Promises
+pub mod Rows

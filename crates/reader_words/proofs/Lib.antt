@@ -1,0 +1,4 @@
+pub mod Packing
+pub mod Ordered
+pub mod Holding
+pub mod Proved

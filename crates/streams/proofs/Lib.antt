@@ -1,0 +1,4 @@
+pub mod Cut
+pub mod Driving
+pub mod Told
+pub mod Proved

@@ -1,0 +1,4 @@
+pub mod Cuts
+pub mod Streams
+pub mod Rows
+pub mod Promises
