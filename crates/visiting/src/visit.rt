@@ -48,7 +48,7 @@ fn visit_record(b: &[u8], f: RegisterFile, log: &mut [u8]) -> Answer
     match number {
         0 => {
             let at = address::resolve(f, x);
-            Answer::Done(steps::put_log(log, x, at))
+            Answer::Done(steps::put_log(log, b, x, at))
         }
         4 => Answer::Complex(x.opcode),
         _ => Answer::Refused(number),
