@@ -1,5 +1,5 @@
 -- What a record that is not refused keeps to, for those who call. Assumes nothing.
-use Prim.Native.Nat.{ℕ, _<_, _≤_}
+use Prim.Native.Nat.{ℕ, zero, suc, _+_, _*_, _%_, _<_, _≤_}
 use native.Mathlib.Omega.{arith}
 use mathlib.Core.Path.{_≡_, refl, sym, ap, _∙_}
 use mathlib.Core.List.{List, [], _∷_}
@@ -181,3 +181,26 @@ module _ (b : List ℕ) {r : RecordAnswer} (e : r ≡ recordAnswer b) where
 pub halves : (b : List ℕ) → completedRecord (plainRecord b) b ≡ recordOf b
 unfolding recordOf plainRecord completedRecord
 halves b = refl
+
+-- spec i and register i, where they stand
+module _ (b : List ℕ) where
+  pub spec-there : (i : ℕ) → i ≤ 3 → getD b (4 + i) 0 ≡ specAt (recordOf b) i
+  unfolding recordOf
+  spec-there zero h = refl
+  spec-there (suc zero) h = refl
+  spec-there (suc (suc zero)) h = refl
+  spec-there (suc (suc (suc zero))) h = refl
+  spec-there (suc (suc (suc (suc i)))) h = absurd (omega arith)
+
+  pub reg-there : (i : ℕ) → i ≤ 3 → reg (getD b (8 + 2 * i) 0) (getD b (9 + 2 * i) 0) ≡ regAt (recordOf b) i
+  unfolding recordOf
+  reg-there zero h = refl
+  reg-there (suc zero) h = refl
+  reg-there (suc (suc zero)) h = refl
+  reg-there (suc (suc (suc zero))) h = refl
+  reg-there (suc (suc (suc (suc i)))) h = absurd (omega arith)
+
+-- the low byte of imm
+pub low-there : (b : List ℕ) → getD b 26 0 < 256 → getD b 26 0 ≡ recordOf b .imm % 256
+unfolding recordOf numberAt
+low-there b h = let n = numberAt b 27 7 in let e : getD b 26 0 ≡ (getD b 26 0 + 256 * n) % 256 = omega (arith, h) in e

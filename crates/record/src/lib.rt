@@ -11,8 +11,21 @@ ghost use Rattle.digest.specs.Digests.{digestIn};
 ghost use Rattle.laws.specs.Words.{bit};
 ghost use Rattle.laws.specs.Tests.{any};
 ghost use Rattle.registers.specs.Banks.{isRegister};
-ghost use Rattle.record.specs.Records.{everydayKind, everydayBytes, recordBytes, recordLength, RecordLong, recordDigest, regFrom, recordOf, lacksDigest, outside, recordRefusal, refusedRecord, recordAnswer, specAt, vexW, addressSize};
+ghost use Rattle.record.specs.Records.{everydayKind, everydayBytes, recordBytes, recordLength, RecordLong, recordDigest, recordOf, lacksDigest, outside, recordRefusal, refusedRecord, recordAnswer, specAt, vexW, addressSize};
 ghost use Rattle.record.specs.Halves.{plainRecord, completedRecord};
+
+mod fields; // fields.rt: its fields, where they stand in its lent bytes
+
+pub use fields::address_size_in;
+pub use fields::count_in;
+pub use fields::disp_in;
+pub use fields::low_imm_in;
+pub use fields::mask_in;
+pub use fields::opcode_in;
+pub use fields::reg_in;
+pub use fields::segment_in;
+pub use fields::size_in;
+pub use fields::spec_in;
 
 // The kinds of records and their lengths: the second names a segment behind what the first has, the third has no digest.
 pub const RECORD_KIND: u8 = 0x10;
@@ -110,29 +123,24 @@ impl Record {
         requires { ⌜ RecordLong (now b) ⌝ }
         ensures { λ r. ⌜ r ≡ plainRecord (now (b .entry)) ⌝ }
     {
-        let specs = [b[4], b[5], b[6], b[7]];
-        let regs = [
-            reg_from(b, 8),
-            reg_from(b, 10),
-            reg_from(b, 12),
-            reg_from(b, 14),
-        ];
+        let specs = [spec_in(b, 0), spec_in(b, 1), spec_in(b, 2), spec_in(b, 3)];
+        let regs = [reg_in(b, 0), reg_in(b, 1), reg_in(b, 2), reg_in(b, 3)];
         let digest = BehaviorDigest {
             behavior: 0,
             operands: 0,
             extra: 0,
         };
         Record {
-            opcode: laws::u16_at(b, 1),
-            count: b[3],
+            opcode: opcode_in(b),
+            count: count_in(b),
             specs: specs,
             regs: regs,
-            size: b[16],
+            size: size_in(b),
             scale: b[17],
-            disp: laws::u64_at(b, 18),
+            disp: disp_in(b),
             imm: laws::u64_at(b, 26),
             prefixes: b[34],
-            mask: b[35],
+            mask: mask_in(b),
             digest: digest,
             segment: 0,
         }
@@ -249,27 +257,6 @@ fn lacks_digest(b: &[u8]) -> bool
     ensures { λ r. ⌜ r ≡ lacksDigest (now (b .entry)) ⌝ }
 {
     b[0] == EVERYDAY_KIND && !everyday::is_everyday(laws::u16_at(b, 1))
-}
-
-// The segment, none in a kind that has no byte for it.
-fn segment_in(b: &[u8]) -> u8
-    ensures { λ r. ⌜ r ≡ getD (now (b .entry)) recordBytes 0 ⌝ }
-{
-    if RECORD_BYTES < b.len() {
-        b[RECORD_BYTES]
-    } else {
-        0
-    }
-}
-
-fn reg_from(b: &[u8], i: usize) -> RegSpec
-    requires { ⌜ i + 2 ≤ length (now b) ⌝ }
-    ensures { λ r. ⌜ r ≡ regFrom (now (b .entry)) i ⌝ }
-{
-    RegSpec {
-        bank: b[i],
-        number: b[i + 1],
-    }
 }
 
 // Whether some number of a record is outside its table.

@@ -1,3 +1,4 @@
 pub mod Specs
 pub mod Operands
 pub mod Logs
+pub mod Lent

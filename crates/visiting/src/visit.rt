@@ -50,7 +50,7 @@ fn visit_record(b: &[u8], file: &[u8], log: &mut [u8]) -> Answer
         0 => {
             let f = RegisterFile::parse(file);
             let at = address::resolve(f, x);
-            Answer::Done(steps::put_log(log, x, at))
+            Answer::Done(steps::put_log(log, b, x, at))
         }
         4 => Answer::Complex(x.opcode),
         _ => Answer::Refused(number),

@@ -1,3 +1,4 @@
+use Rattle.record.specs.Records.{recordOf}
 use Rattle.record.specs.Halves.{completedRecord}
 use borrow.Author.Needs.{needs}
 use Rattle.record.proofs.Record.completed.Statement.{statement}
@@ -10,7 +11,7 @@ segment-in-requires : tie.Need-segment-in-requires
 segment-in-requires c κs = search needs
 
 returns : tie.Need-returns
-unfolding completedRecord
+unfolding completedRecord recordOf
 returns c = rw (c .before .digest-in .ensures, c .segment-in .ensures)
 
 pub completed-spec : {M : Type 1} → statement M

@@ -3,6 +3,7 @@ use denote.Ref.{now}
 use Rattle.registers.specs.Files.{fileOf}
 use Rattle.registers.proofs.Answers.{file-long}
 use Rattle.record.proofs.Laws.{record-long, passed, halves}
+use Rattle.steps.proofs.Lent.{lent-fixed}
 use Rattle.visiting.proofs.Calls.{visited}
 use Rattle.visiting.proofs.Visits.{fits, done, is-complex, is-refused}
 use borrow.Author.Needs.{needs}
@@ -29,8 +30,11 @@ resolve-requires c κs = search needs
 
 put-log-requires : tie.Need-put-log-requires
 put-log-requires c κs =
+    let b = now (c .before .before .before .before .before .before .before .before .before .before .before .args .b) in
+    (lent-fixed b (record-long b (passed b (c .before .before .before .before .before .before .before .before .before .before .before .pre .0) .is) .0)
+    (rw (c .before .before .before .before .before .before .before .plain .ensures) at (c .before .before .before .before .before .before .completed .ensures) ∙ halves b) (c .before .before .before .before .before .fixed-up .ensures),
     rw (c .before .resolve .ensures, c .before .before .parse .ensures)
-    (fits (c .before .before .before .before .before .fixed-up .result) (fileOf (now (c .before .before .before .before .before .before .before .before .before .before .before .args .file))) (c .before .before .before .before .before .before .before .before .before .before .before .pre .2))
+    (fits (c .before .before .before .before .before .fixed-up .result) (fileOf (now (c .before .before .before .before .before .before .before .before .before .before .before .args .file))) (c .before .before .before .before .before .before .before .before .before .before .before .pre .2)))
 
 same-length : tie.Need-same-length
 same-length c = search needs
