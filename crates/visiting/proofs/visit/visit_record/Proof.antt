@@ -24,9 +24,10 @@ resolve-requires : tie.Need-resolve-requires
 resolve-requires c κs = search needs
 
 put-log-requires : tie.Need-put-log-requires
-put-log-requires c κs =
-    (lent-fixed (now (c .before .before .before .before .before .before .before .before .before .args .b)) (record-long (now (c .before .before .before .before .before .before .before .before .before .args .b)) (passed (now (c .before .before .before .before .before .before .before .before .before .args .b)) (c .before .before .before .before .before .before .before .before .before .pre .0) .is) .0) (rw (c .before .before .before .before .before .before .plain .ensures) at (c .before .before .before .before .before .completed .ensures) ∙ halves (now (c .before .before .before .before .before .before .before .before .before .args .b))) (c .before .before .before .before .fixed-up .ensures),
-    rw (c .before .resolve .ensures) (fits (c .before .before .before .before .fixed-up .result) (c .before .before .before .before .before .before .before .before .before .args .f) (c .before .before .before .before .before .before .before .before .before .pre .1)))
+put-log-requires c κs = (
+  lent-fixed (now (c .before .before .before .before .before .before .before .before .before .args .b)) (record-long (now (c .before .before .before .before .before .before .before .before .before .args .b)) (passed (now (c .before .before .before .before .before .before .before .before .before .args .b)) (c .before .before .before .before .before .before .before .before .before .pre .0) .is) .0) (rw (c .before .before .before .before .before .before .plain .ensures) at (c .before .before .before .before .before .completed .ensures) ∙ halves (now (c .before .before .before .before .before .before .before .before .before .args .b))) (c .before .before .before .before .fixed-up .ensures),
+  rw (c .before .resolve .ensures) (fits (c .before .before .before .before .fixed-up .result) (c .before .before .before .before .before .before .before .before .before .args .f) (c .before .before .before .before .before .before .before .before .before .pre .1)),
+)
 
 same-length : tie.Need-same-length
 same-length c = search needs
