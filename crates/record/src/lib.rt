@@ -11,7 +11,7 @@ ghost use Rattle.digest.specs.Digests.{digestIn};
 ghost use Rattle.laws.specs.Words.{bit};
 ghost use Rattle.laws.specs.Tests.{any};
 ghost use Rattle.registers.specs.Banks.{isRegister};
-ghost use Rattle.record.specs.Records.{everydayKind, everydayBytes, recordBytes, recordLength, RecordLong, recordDigest, recordOf, lacksDigest, outside, recordRefusal, refusedRecord, recordAnswer, specAt, vexW, addressSize};
+ghost use Rattle.record.specs.Records.{everydayKind, everydayBytes, recordLength, RecordLong, recordDigest, recordOf, lacksDigest, outside, recordRefusal, refusedRecord, recordAnswer, specAt, vexW, addressSize};
 ghost use Rattle.record.specs.Halves.{plainRecord, completedRecord};
 
 mod fields; // fields.rt: its fields, where they stand in its lent bytes

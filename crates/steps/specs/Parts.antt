@@ -99,5 +99,9 @@ partsFrom x at p (suc k) = partAt x at p ∷ partsFrom x at (p + 1) k
 unfoldable pub partCount : Record → ℕ
 partCount x = cond (ltb 4 (x .count)) 8 (2 * x .count)
 
+-- the accesses of those operands, a bit for each part
+unfoldable pub partBits : Record → ℕ
+partBits x = x .digest .operands % 2 ^ partCount x
+
 unfoldable pub explicitEvents : Record → Sources → List Event
 explicitEvents x at = flat (partsFrom x at 0 (partCount x))

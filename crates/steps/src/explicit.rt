@@ -21,12 +21,11 @@ use record::Record;
 use registers::Value;
 ghost use mathlib.Core.Path.{_≡_};
 ghost use Prim.Native.Nat.{_≤_, _<_};
-ghost use Rattle.laws.specs.Words.{bit};
 ghost use lib.ListN.{length};
 ghost use Rattle.laws.specs.Lending.{size, Logged};
 ghost use Rattle.record.specs.Records.{everydayBytes, recordOf};
 ghost use Rattle.definition.specs.Logs.{eventBytes};
-ghost use Rattle.steps.specs.Parts.{Lent, partEvents, takesBase, partSegment, addedBy, basedEvents, wayOf, partAt, partCount, explicitEvents};
+ghost use Rattle.steps.specs.Parts.{Lent, partEvents, takesBase, partSegment, addedBy, basedEvents, wayOf, partCount, partBits, explicitEvents};
 
 // One part of an operand, by its spec: Nothing and immediates log nothing. The base of its segment is what is added to its address.
 fn put_part(log: &mut [u8], b: &[u8], spec: u8, way: Way, at: Sources, added: Value) -> usize
@@ -144,13 +143,6 @@ fn way_of(part: u8) -> Way
     if part % 2 == 0 { Way::Read } else { Way::Write }
 }
 
-fn has_part(accesses: u8, part: u8) -> bool
-    requires { ⌜ part < 8 ⌝ }
-    ensures { λ r. ⌜ r ≡ bit accesses part ⌝ }
-{
-    (accesses >> part) % 2 == 1
-}
-
 // The specs of memory, but for 20 and 22, the destination of a string instruction.
 fn takes_base(spec: u8) -> bool
     ensures { λ r. ⌜ r ≡ takesBase spec ⌝ }
@@ -192,18 +184,6 @@ fn put_based(log: &mut [u8], b: &[u8], spec: u8, way: Way, at: Sources) -> usize
     n + put_part(&mut log[n..], b, spec, way, at, added)
 }
 
-// Part 2 i is the read part of operand i, and part 2 i + 1 its write part: each bit of the accesses is a part.
-fn put_part_at(log: &mut [u8], b: &[u8], x: Record, part: u8, at: Sources) -> usize
-    requires { ⌜ Lent x (now b) × (part < 8) × (size eventBytes (partAt x at part) ≤ length (now log)) ⌝ }
-    ensures { λ r. ⌜ Logged eventBytes (partAt x at part) (now (log .entry)) (now (log .exit)) r ⌝ }
-{
-    if has_part(x.digest.operands, part) {
-        put_based(log, b, x.spec(part / 2), way_of(part), at)
-    } else {
-        0
-    }
-}
-
 // Two for each operand below count, of which there are at most four.
 fn part_count(x: Record) -> u8
     ensures { λ r. ⌜ (r ≡ partCount x) × (r ≤ 8) ⌝ }
@@ -211,18 +191,27 @@ fn part_count(x: Record) -> u8
     if 4 < x.count { 8 } else { 2 * x.count }
 }
 
-// The record is one after fix-ups, and `b` its lent bytes.
+// The accesses of the operands below count, a bit for each part: 2 i is the read part of operand i, and 2 i + 1 its write part.
+fn parts_of(x: Record) -> u32
+    ensures { λ r. ⌜ (r ≡ partBits x) × (r < 256) ⌝ }
+{
+    let count = part_count(x);
+    (x.digest.operands as u32) % (1 << count)
+}
+
+// From set bit to set bit, so that no branch is taken for a part that is not there. The record is one after fix-ups, and `b` its lent
+// bytes.
 pub fn put_operands(log: &mut [u8], b: &[u8], x: Record, at: Sources) -> usize
     requires { ⌜ Lent x (now b) × (size eventBytes (explicitEvents x at) ≤ length (now log)) ⌝ }
     ensures { λ r. ⌜ Logged eventBytes (explicitEvents x at) (now (log .entry)) (now (log .exit)) r ⌝ }
 {
-    let count = part_count(x);
     let mut n = 0;
-    let mut part: u8 = 0;
-    while part < count {
-        let k = put_part_at(&mut log[n..], b, x, part, at);
+    let mut rest = parts_of(x);
+    while rest != 0 {
+        let part = u32::trailing_zeros(rest) as u8;
+        let k = put_based(&mut log[n..], b, x.spec(part / 2), way_of(part), at);
         n = n + k;
-        part = part + 1;
+        rest = rest - (1 << part);
     }
     n
 }
