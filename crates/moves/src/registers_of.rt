@@ -1,9 +1,9 @@
 // Registers that an explicit operand reads or writes.
 use event::put_register;
 use implicit::Way;
-use registers::FS;
-use registers::GS;
 use registers::RegSpec;
+use registers::names::FS;
+use registers::names::GS;
 ghost use mathlib.Core.Path.{_≡_};
 ghost use Prim.Native.Nat.{_≤_};
 ghost use lib.ListN.{length};

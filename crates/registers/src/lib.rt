@@ -1,4 +1,6 @@
 // Registers by bank and number, and the register file that says what is known of them.
+pub mod names; // names.rt: the registers that lists, specs and segments name
+
 ghost use mathlib.Core.Path.{_≡_};
 ghost use mathlib.Core.Bool.{cond};
 ghost use Prim.Native.Nat.{_+_, _<_, _≤_, _^_};
@@ -22,17 +24,6 @@ pub const FILE_SLOTS: usize = 19;
 pub const FILE_BYTES: usize = 5 + 8 * PLAIN_SLOTS;
 
 pub const BASED_BYTES: usize = 5 + 8 * FILE_SLOTS;
-
-// The bases of fs and gs.
-pub const FS: RegSpec = RegSpec {
-    bank: 13,
-    number: 0,
-};
-
-pub const GS: RegSpec = RegSpec {
-    bank: 13,
-    number: 1,
-};
 
 // A register: its bank, and its number there.
 pub struct RegSpec {

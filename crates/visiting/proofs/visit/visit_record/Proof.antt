@@ -30,11 +30,12 @@ resolve-requires c κs = search needs
 
 put-log-requires : tie.Need-put-log-requires
 put-log-requires c κs =
-    let b = now (c .before .before .before .before .before .before .before .before .before .before .before .args .b) in
-    (lent-fixed b (record-long b (passed b (c .before .before .before .before .before .before .before .before .before .before .before .pre .0) .is) .0)
-    (rw (c .before .before .before .before .before .before .before .plain .ensures) at (c .before .before .before .before .before .before .completed .ensures) ∙ halves b) (c .before .before .before .before .before .fixed-up .ensures),
-    rw (c .before .resolve .ensures, c .before .before .parse .ensures)
-    (fits (c .before .before .before .before .before .fixed-up .result) (fileOf (now (c .before .before .before .before .before .before .before .before .before .before .before .args .file))) (c .before .before .before .before .before .before .before .before .before .before .before .pre .2)))
+    let b = now (c .before .before .before .before .before .before .before .before .before .before .before .args .b) in (
+      lent-fixed b (record-long b (passed b (c .before .before .before .before .before .before .before .before .before .before .before .pre .0) .is) .0)
+          (rw (c .before .before .before .before .before .before .before .plain .ensures) at (c .before .before .before .before .before .before .completed .ensures) ∙ halves b) (c .before .before .before .before .before .fixed-up .ensures),
+      rw (c .before .resolve .ensures, c .before .before .parse .ensures)
+          (fits (c .before .before .before .before .before .fixed-up .result) (fileOf (now (c .before .before .before .before .before .before .before .before .before .before .before .args .file))) (c .before .before .before .before .before .before .before .before .before .before .before .pre .2)),
+    )
 
 same-length : tie.Need-same-length
 same-length c = search needs

@@ -1,5 +1,5 @@
-// The registers that lists and specs name.
-use registers::RegSpec;
+// The registers that lists, specs and segments name.
+use crate::RegSpec;
 
 pub const RAX: RegSpec = RegSpec { bank: 0, number: 0 };
 
@@ -38,4 +38,15 @@ pub const XMM0: RegSpec = RegSpec { bank: 5, number: 0 };
 pub const RFLAGS: RegSpec = RegSpec {
     bank: 11,
     number: 0,
+};
+
+// The bases of fs and gs.
+pub const FS: RegSpec = RegSpec {
+    bank: 13,
+    number: 0,
+};
+
+pub const GS: RegSpec = RegSpec {
+    bank: 13,
+    number: 1,
 };
