@@ -10,7 +10,7 @@ use Rattle.laws.specs.Words.{numberAt}
 use Rattle.laws.specs.Lists.{each}
 use Rattle.sets.specs.Sets.{joined}
 use Rattle.sets.proofs.Joined.{joined-append}
-use Rattle.registers.specs.Files.{fileKind, fileBytes, fileValues, fileLength, isFile, fileOf, noFile}
+use Rattle.registers.specs.Files.{fileKind, fileBytes, fileValues, fileLength, numbersFrom, isFile, fileOf, noFile}
 use Rattle.record.specs.Records.{recordOf, recordRefusal}
 use Rattle.record.specs.declared.Record.{Record}
 use Rattle.definition.specs.Limits.{mostBytes}
@@ -34,7 +34,7 @@ unfolding isFile fileLength fileValues numberAt
 is-good = refl
 
 knows-nothing : fileOf nothing ≡ noFile
-unfolding fileOf noFile numberAt
+unfolding fileOf noFile numbersFrom numberAt
 knows-nothing = refl
 
 pub visited-alone :
