@@ -3,11 +3,16 @@ use crate::values::plus;
 use crate::values::scaled;
 use crate::values::sum;
 use record::Record;
-use registers::FS;
-use registers::GS;
-use registers::RegSpec;
 use registers::RegisterFile;
 use registers::Value;
+use registers::names::AL;
+use registers::names::EDI;
+use registers::names::FS;
+use registers::names::GS;
+use registers::names::RBX;
+use registers::names::RDI;
+use registers::names::RSI;
+use registers::names::RSP;
 ghost use mathlib.Core.Path.{_≡_};
 ghost use Rattle.registers.specs.Files.{valueOf};
 ghost use Rattle.definition.specs.Addresses.{segmentRegister};
@@ -24,18 +29,6 @@ pub struct Sources {
     pub segment: Value,
 }
 
-const RBX: RegSpec = RegSpec { bank: 0, number: 3 };
-
-const RSP: RegSpec = RegSpec { bank: 0, number: 4 };
-
-const RSI: RegSpec = RegSpec { bank: 0, number: 6 };
-
-const RDI: RegSpec = RegSpec { bank: 0, number: 7 };
-
-const EDI: RegSpec = RegSpec { bank: 1, number: 7 };
-
-const AL: RegSpec = RegSpec { bank: 4, number: 0 };
-
 const MINUS_8: u64 = 0xFFFF_FFFF_FFFF_FFF8;
 
 // Where the memory of an implicit list lies: unknown for one that has none.
@@ -44,10 +37,10 @@ fn implied_place(f: RegisterFile, list: u16) -> Value
 {
     match list {
         15 => f.value(EDI),
-        16 => f.value(RDI),
-        26 => plus(f.value(RSP), MINUS_8),
-        27 => f.value(RSP),
-        28 => sum(f.value(RBX), f.value(AL)),
+        16 => f.general(RDI.number),
+        26 => plus(f.general(RSP.number), MINUS_8),
+        27 => f.general(RSP.number),
+        28 => sum(f.general(RBX.number), f.value(AL)),
         _ => Value::Unknown,
     }
 }
@@ -57,9 +50,9 @@ fn segment_base(f: RegisterFile, segment: u8) -> Value
     ensures { λ r. ⌜ r ≡ valueOf f (segmentRegister segment) ⌝ }
 {
     if segment == 1 {
-        f.value(FS)
+        f.base(FS.number)
     } else {
-        f.value(GS)
+        f.base(GS.number)
     }
 }
 
@@ -73,8 +66,8 @@ pub fn resolve(f: RegisterFile, x: Record) -> Sources
     Sources {
         base: base,
         index: scaled(index, x.scale),
-        rdi: f.value(RDI),
-        rsi: f.value(RSI),
+        rdi: f.general(RDI.number),
+        rsi: f.general(RSI.number),
         implied: implied_place(f, x.digest.extra),
         segment: segment_base(f, x.segment),
     }

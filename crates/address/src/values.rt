@@ -1,9 +1,11 @@
 // Sums of what is known: unknown where one of the terms is.
 use crate::words::low_if;
 use crate::words::times;
-use record::Record;
 use registers::Value;
 ghost use mathlib.Core.Path.{_≡_};
+ghost use Prim.Native.Nat.{_≤_};
+ghost use lib.ListN.{length};
+ghost use Rattle.record.specs.Records.{everydayBytes, recordOf};
 ghost use Rattle.address.specs.Places.{plusOf, sumOf, lowOf, scaledOf, cutOf};
 
 // A value and a number.
@@ -46,10 +48,11 @@ pub fn scaled(v: Value, scale: u8) -> Value
 }
 
 // The address of an explicit operand, from its whole sum: cut where the record has the address-size bit.
-pub fn cut(x: Record, v: Value) -> Value
-    ensures { λ r. ⌜ r ≡ cutOf x v ⌝ }
+pub fn cut(b: &[u8], v: Value) -> Value
+    requires { ⌜ everydayBytes ≤ length (now b) ⌝ }
+    ensures { λ r. ⌜ r ≡ cutOf (recordOf (now (b .entry))) v ⌝ }
 {
-    let short = x.address_size();
+    let short = record::address_size_in(b);
     match v {
         Value::Known(a) => Value::Known(low_if(short, a)),
         Value::Unknown => Value::Unknown,

@@ -14,10 +14,10 @@ use Rattle.laws.specs.Tests.{firstOf}
 use Rattle.laws.specs.Lists as lists
 use Rattle.laws.specs.Lending.{splice}
 use Rattle.laws.proofs.Choice.{either}
-use Rattle.registers.specs.Files.{fileOf, isFile, fileAnswer}
-use Rattle.registers.specs.declared.FileAnswer.{FileAnswer}
+use Rattle.registers.specs.Files.{fileOf, isFile}
+use Rattle.registers.specs.Told.{fileRefusal}
 use Rattle.registers.specs.declared.RegisterFile.{RegisterFile}
-use Rattle.registers.proofs.Answers.{file-number, file-read}
+use Rattle.registers.proofs.Answers.{is-file, is-none}
 use Rattle.records.specs.Lists.{mostRecords, listRefusal, cut, recordsIn}
 use Rattle.records.proofs.Cuts.{listed}
 use Rattle.definition.specs.Limits.{mostBytes}
@@ -49,38 +49,18 @@ module _ (each : ℕ) (x f answers : List ℕ) where
   unfolding blockRefusal firstOf
   by-list {k} e ne = rw (← e, ne-eqb k 0 ne)
 
-  module _ {k : ℕ} (e : k ≡ listRefusal (length x) each) (z : k ≡ 0) (g : FileAnswer) (h : g ≡ fileAnswer f) where
-    file-is : g .number ≡ cond (isFile f) 0 3
-    file-is = ap (λ (a : FileAnswer). a .number) h ∙ file-number f
+  module _ {k u : ℕ} (e : k ≡ listRefusal (length x) each) (z : k ≡ 0) (h : u ≡ fileRefusal f) where
+    pub by-file : (u ≡ 0 → ⊥) → blockRefusal each x f answers ≡ u
+    unfolding blockRefusal firstOf fileRefusal
+    by-file ne = rw (← e, z, h, is-none f (rw h at ne))
 
-    good-file : g .number ≡ 0 → isFile f ≡ true
-    good-file n = by (isFile f) file-is
-      where
-        by : (t : Bool) → g .number ≡ cond t 0 3 → t ≡ true
-        by true k = refl
-        by false k = absurd (omega (arith, n, k))
-
-    bad-file : (g .number ≡ 0 → ⊥) → (isFile f ≡ false) × (g .number ≡ 3)
-    bad-file ne = by (isFile f) refl file-is
-      where
-        by : (t : Bool) → isFile f ≡ t → g .number ≡ cond t 0 3 → (isFile f ≡ false) × (g .number ≡ 3)
-        by true u k = absurd (ne k)
-        by false u k = (u, k)
-
-    pub by-file : (g .number ≡ 0 → ⊥) → blockRefusal each x f answers ≡ g .number
+    pub by-room : u ≡ 0 → length answers < answerBytes * (length x / each) → blockRefusal each x f answers ≡ 7
     unfolding blockRefusal firstOf
-    by-file ne = let b = bad-file ne in rw (← e, z, b .0, b .1)
+    by-room n r = rw (← e, z, is-file f (sym h ∙ n), lt-ltb (length answers) (answerBytes * (length x / each)) r)
 
-    pub by-room : g .number ≡ 0 → length answers < answerBytes * (length x / each) → blockRefusal each x f answers ≡ 7
+    pub passed : u ≡ 0 → answerBytes * (length x / each) ≤ length answers → blockRefusal each x f answers ≡ 0
     unfolding blockRefusal firstOf
-    by-room n r = rw (← e, z, good-file n, lt-ltb (length answers) (answerBytes * (length x / each)) r)
-
-    pub passed : g .number ≡ 0 → answerBytes * (length x / each) ≤ length answers → blockRefusal each x f answers ≡ 0
-    unfolding blockRefusal firstOf
-    passed n r = rw (← e, z, good-file n, le-ltb (length answers) (answerBytes * (length x / each)) r)
-
-    pub the-file : g .number ≡ 0 → g .file ≡ fileOf f
-    the-file n = ap (λ (a : FileAnswer). a .file) h ∙ file-read f (good-file n)
+    passed n r = rw (← e, z, is-file f (sym h ∙ n), le-ltb (length answers) (answerBytes * (length x / each)) r)
 
 -- what a call keeps to that is not refused as a whole
 pub record Passed (each : ℕ) (x answers : List ℕ) : Type 0 where

@@ -4,11 +4,12 @@ use crate::fours::is_seven;
 use crate::fours::logged_by;
 use crate::fours::put_answer;
 use records::list_refusal;
-use registers::RegisterFile;
-use visiting::visit_under;
+use visiting::visit_accesses;
 ghost use mathlib.Core.Path.{_≡_};
 ghost use Prim.Native.Nat.{_*_, _/_, _^_, _≤_, _<_};
 ghost use lib.ListN.{length};
+ghost use Rattle.registers.specs.Files.{fileOf};
+ghost use Rattle.registers.specs.Told.{fileRefusal};
 ghost use Rattle.records.specs.Lists.{listRefusal, recordsIn};
 ghost use Rattle.block.specs.Blocks.{answerBytes, blockFrom, toldFrom, blockCall};
 
@@ -31,18 +32,19 @@ fn refused(number: u8) -> Blocked
     }
 }
 
-// Each record under the file that is parsed already. The place is where the next log goes.
+// Each record under the one file. The place is where the next log goes.
 fn visit_each(
     records: &[u8],
     each: usize,
-    file: RegisterFile,
+    file: &[u8],
     log: &mut [u8],
     start: usize,
     answers: &mut [u8],
 ) -> Blocked
-    requires { ⌜ (listRefusal (length (now records)) each ≡ 0) × (answerBytes * (length (now records) / each) ≤ length (now answers)) ⌝ }
+    requires { ⌜ (listRefusal (length (now records)) each ≡ 0) × (answerBytes * (length (now records) / each) ≤ length (now answers))
+        × (fileRefusal (now file) ≡ 0) ⌝ }
     ensures { λ r. ⌜ (r, (now (log .exit), now (answers .exit)))
-        ≡ toldFrom start (now (answers .entry)) 0 (blockFrom file (recordsIn each (now (records .entry))) (now (log .entry)) start) ⌝ }
+        ≡ toldFrom start (now (answers .entry)) 0 (blockFrom (fileOf (now (file .entry))) (recordsIn each (now (records .entry))) (now (log .entry)) start) ⌝ }
 {
     let count = records.len() / each;
     let mut i = 0;
@@ -50,7 +52,7 @@ fn visit_each(
     while i < count {
         let from = i * each;
         let to = from + each;
-        let a = visit_under(&records[from..to], file, log, place);
+        let a = visit_accesses(&records[from..to], file, log, place);
         let at = ANSWER_BYTES * i;
         put_answer(&mut answers[at..], a);
         if is_seven(a) {
@@ -70,7 +72,7 @@ fn visit_each(
     }
 }
 
-// The whole call is refused 1 or 2 for its records, 3 for the file, 7 for the room of the answers. The file is parsed once.
+// The whole call is refused 1 or 2 for its records, 3 for the file, 7 for the room of the answers.
 pub fn visit_block(
     records: &[u8],
     each: usize,
@@ -86,12 +88,12 @@ pub fn visit_block(
     if listed != 0 {
         return refused(listed);
     }
-    let parsed = RegisterFile::from_bytes(file);
-    if parsed.number != 0 {
-        return refused(parsed.number);
+    let unfiled = registers::refusal_of(file);
+    if unfiled != 0 {
+        return refused(unfiled);
     }
     if answers.len() < ANSWER_BYTES * (records.len() / each) {
         return refused(7);
     }
-    visit_each(records, each, parsed.file, log, start, answers)
+    visit_each(records, each, file, log, start, answers)
 }

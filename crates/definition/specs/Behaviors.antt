@@ -17,7 +17,7 @@ use Rattle.digest.specs.declared.DigestAnswer.{DigestAnswer}
 use Rattle.digest.specs.declared.DigestAnswer.the-variants as digests
 use Rattle.implicit.specs.Lists.{implicitOf}
 use Rattle.implicit.specs.Memory.{memoryEntry}
-use Rattle.record.specs.Records.{recordOf, recordRefusal, specAt, regAt, vexW, addressSize}
+use Rattle.record.specs.Records.{recordOf, recordRefusal, withDigest, specAt, regAt, vexW, addressSize}
 use Rattle.record.specs.declared.Record.{Record}
 use Rattle.definition.specs.Tables.{shapeOf, Rule, no-rule, mul, imul, div, nop, cmpxchg, movhalf, extrq, insertq, return, mulx, maskmov, pcmpestri, pcmpestrm, loop, ruleOf}
 use Rattle.definition.specs.declared.Shape.{Shape}
@@ -82,21 +82,7 @@ digestOf x = cond (isNontrivial (x .digest)) (fixUp (ruleOf (x .opcode)) x (x .d
 
 -- the record with its digest after fix-ups: all that follows looks at this one
 unfoldable pub fixedUp : Record → Record
-fixedUp x =
-    record {
-      opcode = x .opcode;
-      count = x .count;
-      specs = x .specs;
-      regs = x .regs;
-      size = x .size;
-      scale = x .scale;
-      disp = x .disp;
-      imm = x .imm;
-      prefixes = x .prefixes;
-      mask = x .mask;
-      digest = digestOf x;
-      segment = x .segment;
-    }
+fixedUp x = withDigest x (digestOf x)
 
 -- bit 5, but for BT, BTS, BTR, BTC only where spec 0 is not RegMMM
 unfoldable pub complex : Record → Bool

@@ -6,5 +6,4 @@ pub mod Wholes
 pub mod Joined
 pub mod Cuts
 pub mod Bytes
-pub mod Round
 pub mod ByWay

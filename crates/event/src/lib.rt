@@ -7,6 +7,5 @@ pub use reader::read_event;
 pub use reader::read_front;
 pub use walk::Counted;
 pub use walk::count_events;
-pub use writer::put_event;
 pub use writer::put_memory;
 pub use writer::put_register;

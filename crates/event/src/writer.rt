@@ -1,5 +1,4 @@
 // Writers of one event each, at the front of the part of a log that is lent to them; each answers how many bytes it wrote.
-use definition::Event;
 use implicit::Way;
 use registers::RegSpec;
 use registers::Value;
@@ -49,19 +48,5 @@ pub fn put_memory(log: &mut [u8], way: Way, at: Value, n: u8) -> usize
             log[1] = n;
             2
         }
-    }
-}
-
-pub fn put_event(log: &mut [u8], e: Event) -> usize
-    requires { ⌜ size eventBytes (e ∷ []) ≤ length (now log) ⌝ }
-    ensures { λ r. ⌜ Logged eventBytes (e ∷ []) (now (log .entry)) (now (log .exit)) r ⌝ }
-{
-    match e {
-        Event::RegisterRead(y) => put_register(log, Way::Read, y),
-        Event::RegisterWrite(y) => put_register(log, Way::Write, y),
-        Event::MemoryRead(a, n) => put_memory(log, Way::Read, Value::Known(a), n),
-        Event::MemoryWrite(a, n) => put_memory(log, Way::Write, Value::Known(a), n),
-        Event::UnknownRead(n) => put_memory(log, Way::Read, Value::Unknown, n),
-        Event::UnknownWrite(n) => put_memory(log, Way::Write, Value::Unknown, n),
     }
 }

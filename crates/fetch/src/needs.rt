@@ -1,14 +1,14 @@
 // The registers that enter the addresses of a record's memory accesses, joined to a set.
 use crate::operands::with_operands;
 use record::Record;
-use refusals::is_nameless;
-use refusals::is_sizeless;
+use registers::FILE_BYTES;
+use registers::FILE_KIND;
+use visiting::MOST_BYTES;
+use visiting::number_of;
+use visiting::visit_accesses;
 ghost use mathlib.Core.Path.{_≡_};
-ghost use mathlib.Core.Bool.{_||_};
 ghost use Rattle.sets.specs.Sets.{joined};
-ghost use Rattle.definition.specs.Behaviors.{complex};
-ghost use Rattle.definition.specs.Refusals.{nameless, sizeless};
-ghost use Rattle.fetching.specs.Needs.{needsOf};
+ghost use Rattle.fetching.specs.Needs.{refusalAlone, needsOf};
 ghost use Rattle.fetch.specs.Parts.{listNeeds};
 
 const RAX: u8 = 0;
@@ -31,24 +31,24 @@ fn with_list(set: u32, list: u16) -> u32
     }
 }
 
-// The record, after fix-ups, is refused 4, 5 or 6.
-fn is_refused(x: Record) -> bool
-    ensures { λ r. ⌜ r ≡ complex x || nameless x || sizeless x ⌝ }
+// How visiting refuses the record: it is visited aside, under a file that knows nothing.
+fn refusal_alone(b: &[u8]) -> u8
+    ensures { λ r. ⌜ r ≡ refusalAlone (now (b .entry)) ⌝ }
 {
-    fixups::is_complex(x) | is_nameless(x) | is_sizeless(x)
+    let mut file = [0u8; FILE_BYTES];
+    file[0] = FILE_KIND;
+    let mut aside = [0u8; MOST_BYTES];
+    let answer = visit_accesses(b, &file, &mut aside, 0);
+    number_of(answer)
 }
 
 // A refused record needs nothing.
 pub(crate) fn with_record(set: u32, b: &[u8]) -> u32
     ensures { λ r. ⌜ r ≡ joined set (needsOf (now (b .entry))) ⌝ }
 {
-    let found = Record::from_bytes(b);
-    if found.number != 0 {
+    if refusal_alone(b) != 0 {
         return set;
     }
-    let x = fixups::fixed_up(found.read);
-    if is_refused(x) {
-        return set;
-    }
+    let x = fixups::fixed_up(Record::parse(b));
     with_operands(with_list(set, x.digest.extra), x)
 }

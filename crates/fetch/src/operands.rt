@@ -3,7 +3,10 @@ use crate::slots::with_segment;
 use crate::slots::with_term;
 use definition::Term;
 use record::Record;
-use registers::RegSpec;
+use registers::names::EDI;
+use registers::names::ESI;
+use registers::names::RDI;
+use registers::names::RSI;
 ghost use mathlib.Core.Path.{_≡_};
 ghost use mathlib.Core.Bool.{cond};
 ghost use mathlib.Core.List.{[]};
@@ -25,14 +28,6 @@ const LAST_MEMORY: u8 = 35;
 const DEREF_RDI: u8 = 20;
 
 const DEREF_EDI: u8 = 22;
-
-const RSI: RegSpec = RegSpec { bank: 0, number: 6 };
-
-const RDI: RegSpec = RegSpec { bank: 0, number: 7 };
-
-const ESI: RegSpec = RegSpec { bank: 1, number: 6 };
-
-const EDI: RegSpec = RegSpec { bank: 1, number: 7 };
 
 // The base of a memory spec: `regs[1]`, or the register that the spec names.
 fn base_of(x: Record, spec: u8) -> Term

@@ -1,8 +1,8 @@
 // The full register that a register is part of, joined to a set by its known bit.
 use definition::Term;
-use registers::FS;
-use registers::GS;
 use registers::RegSpec;
+use registers::names::FS;
+use registers::names::GS;
 ghost use mathlib.Core.Path.{_≡_};
 ghost use mathlib.Core.Bool.{cond};
 ghost use lib.Dec.{ltb};

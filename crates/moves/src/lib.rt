@@ -1,6 +1,5 @@
 // What a part of an explicit operand does to registers and memory, written: no register file is asked.
 mod memory; // memory.rt: memory that it touches
-pub mod names; // names.rt: the registers that lists and specs name
 mod registers_of; // registers_of.rt: registers that it reads or writes
 
 pub use memory::is_stopped;

@@ -1,13 +1,13 @@
 // Registers that an explicit operand reads or writes.
 use event::put_register;
 use implicit::Way;
-use record::Record;
-use registers::FS;
-use registers::GS;
 use registers::RegSpec;
+use registers::names::FS;
+use registers::names::GS;
 ghost use mathlib.Core.Path.{_≡_};
 ghost use Prim.Native.Nat.{_≤_};
 ghost use lib.ListN.{length};
+ghost use Rattle.record.specs.Records.{everydayBytes, recordOf};
 ghost use Rattle.laws.specs.Lending.{size, Logged};
 ghost use Rattle.implicit.specs.declared.Way.the-variants.{Read, Write};
 ghost use Rattle.definition.specs.Steps.{widened, fourthOf, maskRegisters};
@@ -17,12 +17,13 @@ ghost use Rattle.event.specs.Moves.{moved};
 ghost use Rattle.moves.specs.Touches.{plainEvents, maskedEvents};
 
 // Reg4: the bank of `regs[3]` and the low byte of `imm`.
-pub fn fourth_of(x: Record) -> RegSpec
-    ensures { λ r. ⌜ r ≡ fourthOf x ⌝ }
+pub fn fourth_of(b: &[u8]) -> RegSpec
+    requires { ⌜ everydayBytes ≤ length (now b) ⌝ }
+    ensures { λ r. ⌜ r ≡ fourthOf (recordOf (now (b .entry))) ⌝ }
 {
     RegSpec {
-        bank: x.regs[3].bank,
-        number: (x.imm % 256) as u8,
+        bank: record::reg_in(b, 3).bank,
+        number: record::low_imm_in(b),
     }
 }
 

@@ -1,5 +1,5 @@
 -- What a record that is not refused keeps to, for those who call. Assumes nothing.
-use Prim.Native.Nat.{ℕ, _<_, _≤_}
+use Prim.Native.Nat.{ℕ, zero, suc, _+_, _*_, _%_, _<_, _≤_}
 use native.Mathlib.Omega.{arith}
 use mathlib.Core.Path.{_≡_, refl, sym, ap, _∙_}
 use mathlib.Core.List.{List, [], _∷_}
@@ -20,6 +20,7 @@ use Rattle.everyday.proofs.Laws.{held}
 use Rattle.record.specs.Records.{recordKind, segmentKind, everydayKind, everydayBytes, recordBytes, segmentBytes, recordLength, isRecord, RecordLong, broughtDigest, recordDigest, recordOf, outside, lacksDigest, recordTests, recordRefusal, recordAnswer, noRecord, specAt, regAt}
 use Rattle.record.specs.declared.Record.{Record}
 use Rattle.record.specs.declared.RecordAnswer.{RecordAnswer}
+use Rattle.record.specs.Halves.{plainRecord, completedRecord}
 
 -- four tests, joined as code joins them
 pub some-of-four : (a b c d : Bool) → (a || b || c || d) ≡ (a || (b || (c || (d || false))))
@@ -175,3 +176,31 @@ module _ (b : List ℕ) {r : RecordAnswer} (e : r ≡ recordAnswer b) where
 
   pub read-is : r .number ≡ 0 → r .read ≡ recordOf b
   read-is z = ap (λ (a : RecordAnswer). a .read) e ∙ answer-read b (sym number-is ∙ z)
+
+-- a record in its two halves
+pub halves : (b : List ℕ) → completedRecord (plainRecord b) b ≡ recordOf b
+unfolding recordOf plainRecord completedRecord
+halves b = refl
+
+-- spec i and register i, where they stand
+module _ (b : List ℕ) where
+  pub spec-there : (i : ℕ) → i ≤ 3 → getD b (4 + i) 0 ≡ specAt (recordOf b) i
+  unfolding recordOf
+  spec-there zero h = refl
+  spec-there (suc zero) h = refl
+  spec-there (suc (suc zero)) h = refl
+  spec-there (suc (suc (suc zero))) h = refl
+  spec-there (suc (suc (suc (suc i)))) h = absurd (omega arith)
+
+  pub reg-there : (i : ℕ) → i ≤ 3 → reg (getD b (8 + 2 * i) 0) (getD b (9 + 2 * i) 0) ≡ regAt (recordOf b) i
+  unfolding recordOf
+  reg-there zero h = refl
+  reg-there (suc zero) h = refl
+  reg-there (suc (suc zero)) h = refl
+  reg-there (suc (suc (suc zero))) h = refl
+  reg-there (suc (suc (suc (suc i)))) h = absurd (omega arith)
+
+-- the low byte of imm
+pub low-there : (b : List ℕ) → getD b 26 0 < 256 → getD b 26 0 ≡ recordOf b .imm % 256
+unfolding recordOf numberAt
+low-there b h = let n = numberAt b 27 7 in let e : getD b 26 0 ≡ (getD b 26 0 + 256 * n) % 256 = omega (arith, h) in e

@@ -130,6 +130,24 @@ unfoldable pub recordAnswer : List ℕ → RecordAnswer
 recordAnswer b =
     cond (eqb (recordRefusal b) 0) (record { number = 0; read = recordOf b }) (refusedRecord (recordRefusal b))
 
+-- a record, but for its digest
+abbrev pub withDigest : Record → BehaviorDigest → Record
+withDigest x d =
+    record {
+      opcode = x .opcode;
+      count = x .count;
+      specs = x .specs;
+      regs = x .regs;
+      size = x .size;
+      scale = x .scale;
+      disp = x .disp;
+      imm = x .imm;
+      prefixes = x .prefixes;
+      mask = x .mask;
+      digest = d;
+      segment = x .segment;
+    }
+
 -- The parts of a record that the rules ask for
 abbrev pub specAt : Record → ℕ → ℕ
 specAt x i = getD (x .specs) i 0
@@ -139,12 +157,6 @@ regAt x i = getD (x .regs) i (reg 0 0)
 
 abbrev pub vexW : Record → Bool
 vexW x = bit (x .prefixes) 0
-
-abbrev pub rexW : Record → Bool
-rexW x = bit (x .prefixes) 1
-
-abbrev pub operandSize : Record → Bool
-operandSize x = bit (x .prefixes) 2
 
 abbrev pub addressSize : Record → Bool
 addressSize x = bit (x .prefixes) 3

@@ -11,7 +11,21 @@ ghost use Rattle.digest.specs.Digests.{digestIn};
 ghost use Rattle.laws.specs.Words.{bit};
 ghost use Rattle.laws.specs.Tests.{any};
 ghost use Rattle.registers.specs.Banks.{isRegister};
-ghost use Rattle.record.specs.Records.{everydayKind, everydayBytes, recordBytes, recordLength, RecordLong, recordDigest, regFrom, recordOf, lacksDigest, outside, recordRefusal, refusedRecord, recordAnswer, specAt, regAt, vexW, rexW, operandSize, addressSize};
+ghost use Rattle.record.specs.Records.{everydayKind, everydayBytes, recordLength, RecordLong, recordDigest, recordOf, lacksDigest, outside, recordRefusal, refusedRecord, recordAnswer, specAt, vexW, addressSize};
+ghost use Rattle.record.specs.Halves.{plainRecord, completedRecord};
+
+mod fields; // fields.rt: its fields, where they stand in its lent bytes
+
+pub use fields::address_size_in;
+pub use fields::count_in;
+pub use fields::disp_in;
+pub use fields::low_imm_in;
+pub use fields::mask_in;
+pub use fields::opcode_in;
+pub use fields::reg_in;
+pub use fields::segment_in;
+pub use fields::size_in;
+pub use fields::spec_in;
 
 // The kinds of records and their lengths: the second names a segment behind what the first has, the third has no digest.
 pub const RECORD_KIND: u8 = 0x10;
@@ -101,27 +115,45 @@ impl Record {
         requires { ⌜ RecordLong (now b) ⌝ }
         ensures { λ r. ⌜ r ≡ recordOf (now (b .entry)) ⌝ }
     {
-        let specs = [b[4], b[5], b[6], b[7]];
-        let regs = [
-            reg_from(b, 8),
-            reg_from(b, 10),
-            reg_from(b, 12),
-            reg_from(b, 14),
-        ];
+        Record::plain(b).completed(b)
+    }
+
+    // What every kind holds at the same places. It and `completed` are short enough to be inlined, where `parse` is not.
+    pub fn plain(b: &[u8]) -> Record
+        requires { ⌜ RecordLong (now b) ⌝ }
+        ensures { λ r. ⌜ r ≡ plainRecord (now (b .entry)) ⌝ }
+    {
+        let specs = [spec_in(b, 0), spec_in(b, 1), spec_in(b, 2), spec_in(b, 3)];
+        let regs = [reg_in(b, 0), reg_in(b, 1), reg_in(b, 2), reg_in(b, 3)];
+        let digest = BehaviorDigest {
+            behavior: 0,
+            operands: 0,
+            extra: 0,
+        };
         Record {
-            opcode: laws::u16_at(b, 1),
-            count: b[3],
+            opcode: opcode_in(b),
+            count: count_in(b),
             specs: specs,
             regs: regs,
-            size: b[16],
+            size: size_in(b),
             scale: b[17],
-            disp: laws::u64_at(b, 18),
+            disp: disp_in(b),
             imm: laws::u64_at(b, 26),
             prefixes: b[34],
-            mask: b[35],
-            digest: digest_in(b),
-            segment: segment_in(b),
+            mask: mask_in(b),
+            digest: digest,
+            segment: 0,
         }
+    }
+
+    // With what hangs on the kind: the digest and the segment.
+    pub fn completed(mut self, b: &[u8]) -> Record
+        requires { ⌜ RecordLong (now b) ⌝ }
+        ensures { λ r. ⌜ r ≡ completedRecord self (now (b .entry)) ⌝ }
+    {
+        self.digest = digest_in(b);
+        self.segment = segment_in(b);
+        self
     }
 
     // One of four numbers, by a test for each: an array that is asked at a place lies in memory.
@@ -137,35 +169,10 @@ impl Record {
         )
     }
 
-    // The four are taken out before one is chosen: else the whole record is copied for it.
-    pub fn reg_at(self, i: u8) -> RegSpec
-        ensures { λ r. ⌜ r ≡ regAt self i ⌝ }
-    {
-        let regs = self.regs;
-        let k = i as usize;
-        if k < 4 {
-            regs[k]
-        } else {
-            RegSpec { bank: 0, number: 0 }
-        }
-    }
-
     pub fn vex_w(self) -> bool
         ensures { λ r. ⌜ r ≡ vexW self ⌝ }
     {
         has_bit(self.prefixes, 0)
-    }
-
-    pub fn rex_w(self) -> bool
-        ensures { λ r. ⌜ r ≡ rexW self ⌝ }
-    {
-        has_bit(self.prefixes, 1)
-    }
-
-    pub fn operand_size(self) -> bool
-        ensures { λ r. ⌜ r ≡ operandSize self ⌝ }
-    {
-        has_bit(self.prefixes, 2)
     }
 
     pub fn address_size(self) -> bool
@@ -252,28 +259,7 @@ fn lacks_digest(b: &[u8]) -> bool
     b[0] == EVERYDAY_KIND && !everyday::is_everyday(laws::u16_at(b, 1))
 }
 
-// The segment, none in a kind that has no byte for it.
-fn segment_in(b: &[u8]) -> u8
-    ensures { λ r. ⌜ r ≡ getD (now (b .entry)) recordBytes 0 ⌝ }
-{
-    if RECORD_BYTES < b.len() {
-        b[RECORD_BYTES]
-    } else {
-        0
-    }
-}
-
-fn reg_from(b: &[u8], i: usize) -> RegSpec
-    requires { ⌜ i + 2 ≤ length (now b) ⌝ }
-    ensures { λ r. ⌜ r ≡ regFrom (now (b .entry)) i ⌝ }
-{
-    RegSpec {
-        bank: b[i],
-        number: b[i + 1],
-    }
-}
-
-// Whether some number of a record is outside its table. All tests are made, so that no branch is taken between them.
+// Whether some number of a record is outside its table.
 fn is_outside(b: &[u8]) -> bool
     requires { ⌜ RecordLong (now b) ⌝ }
     ensures { λ r. ⌜ r ≡ outside (recordOf (now (b .entry))) ⌝ }
@@ -300,14 +286,32 @@ fn has_bad_spec(b: &[u8]) -> bool
     requires { ⌜ everydayBytes ≤ length (now b) ⌝ }
     ensures { λ r. ⌜ r ≡ any (λ s. ltb 35 s) (recordOf (now (b .entry)) .specs) ⌝ }
 {
-    (35 < b[4]) | (35 < b[5]) | (35 < b[6]) | (35 < b[7])
+    if 35 < b[4] {
+        return true;
+    }
+    if 35 < b[5] {
+        return true;
+    }
+    if 35 < b[6] {
+        return true;
+    }
+    35 < b[7]
 }
 
 fn has_bad_reg(b: &[u8]) -> bool
     requires { ⌜ everydayBytes ≤ length (now b) ⌝ }
     ensures { λ r. ⌜ r ≡ any (λ y. not (isRegister (y .bank) (y .number))) (recordOf (now (b .entry)) .regs) ⌝ }
 {
-    is_bad(b[8], b[9]) | is_bad(b[10], b[11]) | is_bad(b[12], b[13]) | is_bad(b[14], b[15])
+    if is_bad(b[8], b[9]) {
+        return true;
+    }
+    if is_bad(b[10], b[11]) {
+        return true;
+    }
+    if is_bad(b[12], b[13]) {
+        return true;
+    }
+    is_bad(b[14], b[15])
 }
 
 fn is_bad(bank: u8, number: u8) -> bool

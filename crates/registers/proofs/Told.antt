@@ -188,6 +188,17 @@ module _ (f : RegisterFile) where
   unfolding valueOf partOf isLogged
   whole-untold n h = rw (le-ltb n 16 h) (sym no-part)
 
+  -- the base of fs and that of gs
+  pub base-told :
+      (n : ℕ) {s : Bool} {v : ℕ} → n < 2 → s ≡ bit (f .known) (plainSlots + n) → v ≡ getD (f .values) (plainSlots + n) 0 → v < 2 ^ 64
+      → cond s (Known v) Unknown ≡ valueOf f (reg 13 n)
+  unfolding valueOf partOf isLogged
+  base-told n {s} {v} h e w k = rw (lt-ltb n 2 h, e) (sym (slot-part (plainSlots + n) 0 64 v (omega arith) (rw (← w) (whole-part 64 v k))))
+
+  pub base-untold : (n : ℕ) → (n ≡ 0 → ⊥) → (n ≡ 1 → ⊥) → Unknown ≡ valueOf f (reg 13 n)
+  unfolding valueOf partOf isLogged
+  base-untold n p q = rw (le-ltb n 2 (omega (arith, p, q))) (sym no-part)
+
   -- what is found of a register in parts is what the file answers of it
   pub told :
       (x : RegSpec) {k v : ℕ} {t s : Bool}

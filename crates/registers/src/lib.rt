@@ -1,4 +1,6 @@
 // Registers by bank and number, and the register file that says what is known of them.
+pub mod names; // names.rt: the registers that lists, specs and segments name
+
 ghost use mathlib.Core.Path.{_≡_};
 ghost use mathlib.Core.Bool.{cond};
 ghost use Prim.Native.Nat.{_+_, _<_, _≤_, _^_};
@@ -22,17 +24,6 @@ pub const FILE_SLOTS: usize = 19;
 pub const FILE_BYTES: usize = 5 + 8 * PLAIN_SLOTS;
 
 pub const BASED_BYTES: usize = 5 + 8 * FILE_SLOTS;
-
-// The bases of fs and gs.
-pub const FS: RegSpec = RegSpec {
-    bank: 13,
-    number: 0,
-};
-
-pub const GS: RegSpec = RegSpec {
-    bank: 13,
-    number: 1,
-};
 
 // A register: its bank, and its number there.
 pub struct RegSpec {
@@ -201,6 +192,19 @@ impl RegisterFile {
         value_in(&self.values, self.known, x)
     }
 
+    // The same of a general register and of the base of fs or gs, by its number: short enough to be inlined, so that no file is copied.
+    pub fn general(self, number: u8) -> Value
+        ensures { λ r. ⌜ r ≡ valueOf self (reg 0 number) ⌝ }
+    {
+        whole(&self.values, self.known, number)
+    }
+
+    pub fn base(self, number: u8) -> Value
+        ensures { λ r. ⌜ r ≡ valueOf self (reg 13 number) ⌝ }
+    {
+        base_in(&self.values, self.known, number)
+    }
+
     // The same of two registers, the base and the index of an address: the file is copied once for both.
     pub fn two_values(self, base: RegSpec, index: RegSpec) -> TwoValues
         ensures { λ r. ⌜ r ≡ twoValues self base index ⌝ }
@@ -299,6 +303,21 @@ fn whole(values: &[u64; FILE_SLOTS], known: u32, number: u8) -> Value
     } else {
         Value::Unknown
     }
+}
+
+// The base of fs, and that of gs.
+fn base_in(values: &[u64; FILE_SLOTS], known: u32, number: u8) -> Value
+    ensures { λ r. ⌜ r ≡ valueOf (fileWith (now (values .entry)) known) (reg 13 number) ⌝ }
+{
+    if number == 0 {
+        let set = is_set(known, 17);
+        return known_if(set, values[17]);
+    }
+    if number == 1 {
+        let set = is_set(known, 18);
+        return known_if(set, values[18]);
+    }
+    Value::Unknown
 }
 
 fn known_if(set: bool, word: u64) -> Value

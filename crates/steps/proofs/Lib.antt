@@ -1,3 +1,5 @@
 pub mod Specs
 pub mod Operands
 pub mod Logs
+pub mod Lent
+pub mod Bits

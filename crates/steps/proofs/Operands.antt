@@ -1,20 +1,17 @@
 -- The explicit operands, part by part. Assumes nothing.
-use Prim.Native.Nat.{ℕ, zero, suc, _+_, _-_, _*_, _/_, _%_, _^_, _<_, _≤_}
-use native.Mathlib.Numerals.{add-one}
+use Prim.Native.Nat.{ℕ, zero, suc, _+_, _-_, _*_, _/_, _%_, _^_, _<_}
 use native.Mathlib.Omega.{arith}
-use mathlib.Core.Path.{_≡_, refl, sym, ap, _∙_}
+use mathlib.Core.Path.{_≡_, refl, ap, _∙_}
 use mathlib.Core.Bool.{Bool, true, false, cond}
 use mathlib.Core.List.{List, [], _∷_, _++_, append-assoc, append-nil}
 use lib.Dec.{ltb, eqb}
-use lib.ListN.{length, take}
+use lib.ListN.{take}
 use lib.Seq.{take-nil}
 use borrow.Author.Tests.{lt-ltb}
 use Rattle.laws.specs.Words.{bit}
 use Rattle.laws.specs.Lists.{each, flat}
-use Rattle.laws.specs.Lending.{size}
-use Rattle.laws.proofs.Lending.{Going, start}
 use Rattle.laws.proofs.Lists.{each-append}
-use Rattle.access.specs.Accesses.{reading, writing}
+use Rattle.access.specs.Accesses.{writing}
 use Rattle.registers.specs.declared.RegisterFile.{RegisterFile}
 use Rattle.digest.specs.Digests.{accessAt}
 use Rattle.implicit.specs.declared.Way.the-variants.{Read, Write}
@@ -23,29 +20,12 @@ use Rattle.record.specs.declared.Record.{Record}
 use Rattle.definition.specs.Tables.{shapeOf}
 use Rattle.definition.specs.Behaviors.{Operand, operandAt, operandsOf}
 use Rattle.definition.specs.Steps.{Step, operandSteps, readPart, writePart}
-use Rattle.definition.specs.Logs.{stepEvents, eventsOf, eventBytes}
+use Rattle.definition.specs.Logs.{stepEvents, eventsOf}
 use Rattle.definition.specs.declared.Event.{Event}
 use Rattle.address.specs.Places.{sourcesOf}
 use Rattle.address.specs.declared.places.Sources.{Sources}
-use Rattle.steps.specs.Parts.{basedEvents, wayOf, partAt, partsFrom, partCount, explicitEvents}
+use Rattle.steps.specs.Parts.{wayOf, partAt, partsFrom, partCount, explicitEvents}
 use Rattle.steps.proofs.Specs.{partSteps, part-is}
-
--- the next part, and those after it
-module _ (x : Record) (at : Sources) where
-  pub next-part : (count p : ℕ) → p < count → partsFrom x at p (count - p) ≡ partAt x at p ∷ partsFrom x at (p + 1) (count - (p + 1))
-  unfolding partsFrom
-  next-part count p h = let e : count - p ≡ suc (count - (p + 1)) = omega arith in rw e
-
-  pub begun :
-      {count : ℕ} (old : List ℕ) → count ≡ partCount x → size eventBytes (explicitEvents x at) ≤ length old → length old < 2 ^ 64
-      → Going eventBytes (explicitEvents x at) (partsFrom x at 0 (count - 0)) old old 0
-  unfolding explicitEvents
-  begun {count} old e h k =
-      let z : count - 0 ≡ partCount x = omega arith in rw z (start (partsFrom x at 0 (partCount x)) old h k)
-
-  pub no-part : (count p : ℕ) → count ≤ p → partsFrom x at p (count - p) ≡ []
-  unfolding partsFrom
-  no-part count p h = let e : count - p ≡ 0 = omega arith in rw e
 
 -- a bit of the accesses is a part
 module _ (v : ℕ) where

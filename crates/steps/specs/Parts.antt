@@ -1,8 +1,9 @@
 -- The parts of explicit operands as events, from what the record's addresses are made of: no register file enters.
-use Prim.Native.Nat.{ℕ, zero, suc, _+_, _*_, _/_, _%_, _^_}
+use Prim.Native.Nat.{ℕ, zero, suc, _+_, _*_, _/_, _%_, _^_, _≤_}
+use mathlib.Core.Path.{_≡_}
 use mathlib.Core.List.{List, [], _∷_}
 use mathlib.Core.Bool.{Bool, not, cond, _&&_}
-use lib.ListN.{getD}
+use lib.ListN.{length, getD}
 use lib.Dec.{ltb, eqb}
 use Rattle.laws.specs.Words.{bit}
 use Rattle.laws.specs.Lists.{flat}
@@ -11,7 +12,7 @@ use Rattle.registers.specs.declared.Value.the-variants.{Known}
 use Rattle.implicit.specs.Lists.{rdi, rsi, edi, esi}
 use Rattle.implicit.specs.declared.Way.{Way}
 use Rattle.implicit.specs.declared.Way.the-variants.{Read, Write}
-use Rattle.record.specs.Records.{specAt, regAt}
+use Rattle.record.specs.Records.{everydayBytes, recordOf, withDigest, specAt, regAt}
 use Rattle.record.specs.declared.Record.{Record}
 use Rattle.definition.specs.Addresses.{signed32, segmentRegisters}
 use Rattle.definition.specs.Steps.{fourthOf}
@@ -20,6 +21,10 @@ use Rattle.address.specs.Places.{plusOf, sumOf, lowOf}
 use Rattle.address.specs.declared.places.Sources.{Sources}
 use Rattle.event.specs.Moves.{moved}
 use Rattle.moves.specs.Touches.{stops, plainEvents, maskedEvents, accessEvents, derefEvents, indexedEvents}
+
+-- a record after fix-ups, whose other fields stand in the lent bytes
+abbrev pub Lent : Record → List ℕ → Type 0
+Lent x b = (everydayBytes ≤ length b) × (x ≡ withDigest (recordOf b) (x .digest))
 
 -- by spec, 0 to 35, where the base of a segment adds g
 abbrev pub parts : Record → Way → Sources → Value → List (List Event)
@@ -93,6 +98,10 @@ partsFrom x at p (suc k) = partAt x at p ∷ partsFrom x at (p + 1) k
 -- two parts for each operand below count, of which there are at most four
 unfoldable pub partCount : Record → ℕ
 partCount x = cond (ltb 4 (x .count)) 8 (2 * x .count)
+
+-- the accesses of those operands, a bit for each part
+unfoldable pub partBits : Record → ℕ
+partBits x = x .digest .operands % 2 ^ partCount x
 
 unfoldable pub explicitEvents : Record → Sources → List Event
 explicitEvents x at = flat (partsFrom x at 0 (partCount x))

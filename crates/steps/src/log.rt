@@ -4,12 +4,13 @@ use address::Sources;
 use event::put_register;
 use implicit::Way;
 use implied::put_list;
-use moves::names::RFLAGS;
 use record::Record;
+use registers::names::RFLAGS;
 ghost use Prim.Native.Nat.{_≤_};
 ghost use lib.ListN.{length};
 ghost use Rattle.laws.specs.Lending.{size, Logged};
 ghost use Rattle.definition.specs.Logs.{eventBytes};
+ghost use Rattle.steps.specs.Parts.{Lent};
 ghost use Rattle.steps.specs.Whole.{flagsRead, flagsWrite, logEvents};
 
 fn put_flags_read(log: &mut [u8], x: Record) -> usize
@@ -36,14 +37,14 @@ fn put_flags_write(log: &mut [u8], x: Record) -> usize
     }
 }
 
-// The implicit list, flags read, flags write, then the explicit operands. The record is one after fix-ups.
-pub fn put_log(log: &mut [u8], x: Record, at: Sources) -> usize
-    requires { ⌜ size eventBytes (logEvents x at) ≤ length (now log) ⌝ }
+// The implicit list, flags read, flags write, then the explicit operands. The record is one after fix-ups, and `b` its lent bytes.
+pub fn put_log(log: &mut [u8], b: &[u8], x: Record, at: Sources) -> usize
+    requires { ⌜ Lent x (now b) × (size eventBytes (logEvents x at) ≤ length (now log)) ⌝ }
     ensures { λ r. ⌜ Logged eventBytes (logEvents x at) (now (log .entry)) (now (log .exit)) r ⌝ }
 {
     let implied = at.implied;
     let a = put_list(log, x, implied);
-    let b = a + put_flags_read(&mut log[a..], x);
-    let c = b + put_flags_write(&mut log[b..], x);
-    c + put_operands(&mut log[c..], x, at)
+    let c = a + put_flags_read(&mut log[a..], x);
+    let d = c + put_flags_write(&mut log[c..], x);
+    d + put_operands(&mut log[d..], b, x, at)
 }

@@ -13,6 +13,8 @@ ghost use Rattle.definition.specs.Behaviors.{complex};
 ghost use Rattle.definition.specs.Limits.{mostBytes};
 ghost use Rattle.definition.specs.Refusals.{nameless, sizeless};
 ghost use Rattle.definition.specs.Visits.{visitUnder, visitOf};
+ghost use Rattle.registers.specs.Files.{fileOf};
+ghost use Rattle.registers.specs.Told.{fileRefusal};
 ghost use Rattle.visiting.specs.Records.{firstRefusal};
 ghost use Rattle.visiting.specs.Laying.{Within, laidOut};
 
@@ -35,19 +37,20 @@ fn refusal_of(x: Record) -> u8
     0
 }
 
-// A record that refusals 1 and 2 passed, where the longest log has room. Every visit comes here, so that the writers are called at one
-// place alone.
-fn visit_record(b: &[u8], f: RegisterFile, log: &mut [u8]) -> Answer
-    requires { ⌜ (recordRefusal (now b) ≡ 0) × (mostBytes ≤ length (now log)) ⌝ }
-    ensures { λ r. ⌜ (r, now (log .exit)) ≡ visitUnder (now (b .entry)) f (now (log .entry)) 0 ⌝ }
+// A record that refusals 1, 2 and 9 passed, under a file that 3 passed, where the longest log has room.
+fn visit_record(b: &[u8], file: &[u8], log: &mut [u8]) -> Answer
+    requires { ⌜ (recordRefusal (now b) ≡ 0) × (fileRefusal (now file) ≡ 0) × (mostBytes ≤ length (now log)) ⌝ }
+    ensures { λ r. ⌜ (r, now (log .exit)) ≡ visitUnder (now (b .entry)) (fileOf (now (file .entry))) (now (log .entry)) 0 ⌝ }
 {
-    let read = Record::parse(b);
+    let plain = Record::plain(b);
+    let read = plain.completed(b);
     let x = fixups::fixed_up(read);
     let number = refusal_of(x);
     match number {
         0 => {
+            let f = RegisterFile::parse(file);
             let at = address::resolve(f, x);
-            Answer::Done(steps::put_log(log, x, at))
+            Answer::Done(steps::put_log(log, b, x, at))
         }
         4 => Answer::Complex(x.opcode),
         _ => Answer::Refused(number),
@@ -73,32 +76,15 @@ fn lay(answer: Answer, aside: &[u8], log: &mut [u8], start: usize) -> Answer
     }
 }
 
-// Where the longest log may have no room, it is written aside first.
-fn visit_tight(b: &[u8], f: RegisterFile, log: &mut [u8], start: usize) -> Answer
-    requires { ⌜ recordRefusal (now b) ≡ 0 ⌝ }
-    ensures { λ r. ⌜ (r, now (log .exit)) ≡ visitUnder (now (b .entry)) f (now (log .entry)) start ⌝ }
+// Where the longest log may have no room, it is written aside first, by the same call: so the writers are called at one place alone.
+fn visit_tight(b: &[u8], file: &[u8], log: &mut [u8], start: usize) -> Answer
+    ensures { λ r. ⌜ (r, now (log .exit)) ≡ visitOf (now (b .entry)) (now (file .entry)) (now (log .entry)) start ⌝ }
 {
     let mut aside = [0u8; MOST_BYTES];
-    let answer = visit_record(b, f, &mut aside);
+    let answer = visit_accesses(b, file, &mut aside, 0);
     lay(answer, &aside, log, start)
 }
 
-// Under a register file that is parsed already.
-pub fn visit_under(b: &[u8], f: RegisterFile, log: &mut [u8], start: usize) -> Answer
-    ensures { λ r. ⌜ (r, now (log .exit)) ≡ visitUnder (now (b .entry)) f (now (log .entry)) start ⌝ }
-{
-    let unread = record::refusal_of(b);
-    if unread != 0 {
-        return Answer::Refused(unread);
-    }
-    if laws::lacks_room(MOST_BYTES, start, log.len()) {
-        visit_tight(b, f, log, start)
-    } else {
-        visit_record(b, f, &mut log[start..])
-    }
-}
-
-// The last lines are those of `visit_under`: as a function of their own they would copy the file once more.
 pub fn visit_accesses(b: &[u8], file: &[u8], log: &mut [u8], start: usize) -> Answer
     ensures { λ r. ⌜ (r, now (log .exit)) ≡ visitOf (now (b .entry)) (now (file .entry)) (now (log .entry)) start ⌝ }
 {
@@ -110,10 +96,8 @@ pub fn visit_accesses(b: &[u8], file: &[u8], log: &mut [u8], start: usize) -> An
     if unfiled != 0 {
         return Answer::Refused(unfiled);
     }
-    let f = RegisterFile::parse(file);
     if laws::lacks_room(MOST_BYTES, start, log.len()) {
-        visit_tight(b, f, log, start)
-    } else {
-        visit_record(b, f, &mut log[start..])
+        return visit_tight(b, file, log, start);
     }
+    visit_record(b, file, &mut log[start..])
 }

@@ -1,5 +1,6 @@
 // What a step and an event of a watch answer, each part at its bit.
 use definition::Answer;
+use visiting::number_of;
 use watching::Naming;
 use watching::Stepped;
 use watching::Tally;
@@ -7,21 +8,10 @@ use watching::Variable;
 use watching::Verdict;
 ghost use mathlib.Core.Path.{_≡_};
 ghost use Prim.Native.Nat.{_^_, _<_};
-ghost use Rattle.definition.specs.Visits.{numberOf, opcodeOf};
+ghost use Rattle.definition.specs.Visits.{opcodeOf};
 ghost use Rattle.watching.specs.Tallies.{total};
 ghost use Rattle.watching.specs.Verdicts.{variable, nameAt, verdictNumber};
 ghost use Rattle.watch_words.specs.Bits.{tallyBits, steppedBits, namingBits};
-
-fn number_of(a: Answer) -> u8
-    ensures { λ r. ⌜ r ≡ numberOf a ⌝ }
-{
-    match a {
-        Answer::Done(_) => 0,
-        Answer::Refused(number) => number,
-        Answer::Complex(_) => 4,
-        Answer::Short(_) => 7,
-    }
-}
 
 fn opcode_of(a: Answer) -> u16
     ensures { λ r. ⌜ r ≡ opcodeOf a ⌝ }

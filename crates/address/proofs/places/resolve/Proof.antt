@@ -15,11 +15,11 @@ two-values-requires c κs = search needs
 scaled-requires : tie.Need-scaled-requires
 scaled-requires c κs = search needs
 
-value-requires : tie.Need-value-requires
-value-requires c κs = search needs
+general-requires : tie.Need-general-requires
+general-requires c κs = search needs
 
-value-requires-2 : tie.Need-value-requires-2
-value-requires-2 c κs = search needs
+general-requires-2 : tie.Need-general-requires-2
+general-requires-2 c κs = search needs
 
 implied-place-requires : tie.Need-implied-place-requires
 implied-place-requires c κs = search needs
@@ -29,7 +29,7 @@ segment-base-requires c κs = search needs
 
 returns : tie.Need-returns
 unfolding sourcesOf
-returns c = rw (c .before .before .before .before .scaled .ensures, c .before .before .before .before .before .two-values .ensures, c .before .before .before .value .ensures, c .before .before .value2 .ensures, c .before .implied-place .ensures, c .segment-base .ensures)
+returns c = rw (c .before .before .before .before .scaled .ensures, c .before .before .before .before .before .two-values .ensures, c .before .before .before .general .ensures, c .before .before .general2 .ensures, c .before .implied-place .ensures, c .segment-base .ensures)
 
 pub resolve-spec : {M : Type 1} → statement M
 resolve-spec =
@@ -39,8 +39,8 @@ resolve-spec =
     element-copy-out-two-values-2
     two-values-requires
     scaled-requires
-    value-requires
-    value-requires-2
+    general-requires
+    general-requires-2
     implied-place-requires
     segment-base-requires
     returns)

@@ -6,34 +6,37 @@ use mathlib.Core.Path.{_≡_, refl, sym, ap, _∙_}
 use lib.ListN.{length}
 use borrow.Author.Needs.{needs}
 use Rattle.laws.proofs.Lending.{back, part-length}
+use Rattle.registers.specs.Files.{fileOf}
 use Rattle.records.specs.Lists.{recordsIn}
 use Rattle.records.proofs.Cuts.{listed, inside, from-first}
 use Rattle.block.specs.Blocks.{blockFrom, toldFrom, answerBytes}
 use Rattle.block.proofs.Rooms.{count-byte}
-use Rattle.block.proofs.Turns.{tellsFrom, Turn, answers-long, log-long, place-fits, goes-on, stops, over}
+use Rattle.definition.specs.Visits.{visitUnder}
+use Rattle.visiting.proofs.Calls.{good-file}
+use Rattle.block.proofs.Turns.{tellsFrom, cutAt, Turn, answers-long, log-long, place-fits, goes-on, stops, over}
 use Rattle.block.proofs.blocks.visit_each.Statement.{statement}
 use Rattle.block.proofs.blocks.visit_each.Tie as tie
 
 abbrev Inv-loop : tie.InvT-loop
 Inv-loop records each file log₀ start answers₀ count i₀ place₀ log answers i place =
     (i ≤ count) × (start ≤ place) × (length log ≡ length log₀) × (length answers ≡ length answers₀)
-    × (toldFrom start answers₀ 0 (blockFrom file (recordsIn each records) log₀ start) ≡ tellsFrom each records file start i log place answers)
+    × (toldFrom start answers₀ 0 (blockFrom (fileOf file) (recordsIn each records) log₀ start) ≡ tellsFrom each records (fileOf file) start i log place answers)
     × (place < 2 ^ 64)
 
 abbrev μ-loop : tie.MeasureT-loop
 μ-loop records each file log₀ start answers₀ count i₀ place₀ log answers i place = count - i
 
 div-count : tie.Need-div-count Inv-loop μ-loop
-div-count c = listed (length (c .before .before .before .args .records .now)) (c .before .before .before .args .each) (c .before .before .before .pre .0) .some
+div-count c = listed (length (c .before .before .before .before .args .records .now)) (c .before .before .before .before .args .each) (c .before .before .before .before .pre .0) .some
 
 loop-holds : tie.Need-loop-holds Inv-loop μ-loop
-loop-holds c = (zero-le, le-refl _, refl, refl, rw (from-first (c .before .before .before .args .each) (c .before .before .before .args .records .now)), search needs)
+loop-holds c = (zero-le, le-refl _, refl, refl, rw (from-first (c .before .before .before .before .args .each) (c .before .before .before .before .args .records .now)), search needs)
 
 -- record i lies within the records
 whole :
     (c : tie.In-loop Inv-loop μ-loop)
-    → c .before .loop .i * c .before .before .before .before .before .args .each + c .before .before .before .before .before .args .each ≤ length (c .before .before .before .before .before .args .records .now)
-whole c = let s = c .before .before .before .before .before in inside (c .before .loop .i) (listed (length (s .args .records .now)) (s .args .each) (s .pre .0)) (c .loop-test .taken)
+    → c .before .loop .i * c .before .before .before .before .before .before .args .each + c .before .before .before .before .before .before .args .each ≤ length (c .before .before .before .before .before .before .args .records .now)
+whole c = let s = c .before .before .before .before .before .before in inside (c .before .loop .i) (listed (length (s .args .records .now)) (s .args .each) (s .pre .0)) (c .loop-test .taken)
 
 mul-from : tie.Need-mul-from Inv-loop μ-loop
 mul-from c = record { fits = omega (arith, whole c) }
@@ -41,17 +44,17 @@ mul-from c = record { fits = omega (arith, whole c) }
 add-to : tie.Need-add-to Inv-loop μ-loop
 add-to c = record { fits = omega (arith, whole c) }
 
-sub-visit-under : tie.Need-sub-visit-under Inv-loop μ-loop
-sub-visit-under c = omega arith
+sub-visit-accesses : tie.Need-sub-visit-accesses Inv-loop μ-loop
+sub-visit-accesses c = omega arith
 
-part-visit-under-start : tie.Need-part-visit-under-start Inv-loop μ-loop
-part-visit-under-start c = omega (arith, whole c)
+part-visit-accesses-start : tie.Need-part-visit-accesses-start Inv-loop μ-loop
+part-visit-accesses-start c = omega (arith, whole c)
 
-part-visit-under-end : tie.Need-part-visit-under-end Inv-loop μ-loop
-part-visit-under-end c = omega (arith, whole c)
+part-visit-accesses-end : tie.Need-part-visit-accesses-end Inv-loop μ-loop
+part-visit-accesses-end c = omega (arith, whole c)
 
-visit-under-requires : tie.Need-visit-under-requires Inv-loop μ-loop
-visit-under-requires c κs = tt
+visit-accesses-requires : tie.Need-visit-accesses-requires Inv-loop μ-loop
+visit-accesses-requires c κs = tt
 
 mul-at : tie.Need-mul-at Inv-loop μ-loop
 mul-at c = search needs
@@ -65,12 +68,23 @@ part-put-answer-start c = search needs
 part-put-answer-end : tie.Need-part-put-answer-end Inv-loop μ-loop
 part-put-answer-end c = search needs
 
+-- the visit under the file that passed
+visit :
+    (c : tie.After-visit-accesses Inv-loop μ-loop) → let l = c .before .before .before .before .loop in let x = c .before .before .before .before .before .before .before .before .before .args in
+    (c .visit-accesses .result, c .visit-accesses .last .1 .1 .0) ≡ visitUnder (cutAt (x .each) (x .records .now) (fileOf (x .file .now)) (x .start) (l .i)) (fileOf (x .file .now)) (l .log) (l .place)
+visit c =
+    let l = c .before .before .before .before .loop in
+    let s = c .before .before .before .before .before .before .before .before .before in
+    let x = s .args in
+    c .visit-accesses .ensures
+    ∙ sym (good-file (cutAt (x .each) (x .records .now) (fileOf (x .file .now)) (x .start) (l .i)) (l .log) (l .place) {f = fileOf (x .file .now)} (x .file .now) refl (s .pre .2) refl)
+
 put-answer-requires : tie.Need-put-answer-requires Inv-loop μ-loop
 put-answer-requires c κs =
     let l = c .before .before .before .before .before .before .before .loop in
-    let s = c .before .before .before .before .before .before .before .before .before .before .before in (
+    let s = c .before .before .before .before .before .before .before .before .before .before .before .before in (
       omega (arith, part-length (l .answers) (answerBytes * l .i), l .inv .3, s .pre .1, c .before .before .before .before .before .before .loop-test .taken),
-      count-byte _ _ _ _ (c .before .before .before .visit-under .ensures),
+      count-byte _ _ _ _ (visit (c .before .before .before)),
     )
 
 is-seven-requires : tie.Need-is-seven-requires Inv-loop μ-loop
@@ -78,12 +92,12 @@ is-seven-requires c κs = tt
 
 -- one turn: what the two calls ensure; and the room of its answer
 turn :
-    (c : tie.After-is-seven Inv-loop μ-loop) → let l = c .before .before .before .before .before .before .before .before .before .before .before .loop in let x = c .before .before .before .before .before .before .before .before .before .before .before .before .before .before .before .args in
-    Turn (x .each) (x .records .now) (x .file) (x .start) (l .i) (l .log) (l .place) (l .answers) (c .before .before .before .before .before .before .before .visit-under .result) (c .before .before .before .before .before .before .before .visit-under .last .1 .1 .0) (c .before .before .before .put-answer .last .0)
-turn c = record { visited = c .before .before .before .before .before .before .before .visit-under .ensures; told = c .before .before .before .put-answer .ensures }
+    (c : tie.After-is-seven Inv-loop μ-loop) → let l = c .before .before .before .before .before .before .before .before .before .before .before .loop in let x = c .before .before .before .before .before .before .before .before .before .before .before .before .before .before .before .before .args in
+    Turn (x .each) (x .records .now) (fileOf (x .file .now)) (x .start) (l .i) (l .log) (l .place) (l .answers) (c .before .before .before .before .before .before .before .visit-accesses .result) (c .before .before .before .before .before .before .before .visit-accesses .last .1 .1 .0) (c .before .before .before .put-answer .last .0)
+turn c = record { visited = visit (c .before .before .before .before .before .before .before); told = c .before .before .before .put-answer .ensures }
 
 room : (c : tie.After-is-seven Inv-loop μ-loop) → answerBytes * c .before .before .before .before .before .before .before .before .before .before .before .loop .i + answerBytes ≤ length (c .before .before .before .before .before .before .before .before .before .before .before .loop .answers)
-room c = omega (arith, c .before .before .before .before .before .before .before .before .before .before .before .loop .inv .3, c .before .before .before .before .before .before .before .before .before .before .before .before .before .before .before .pre .1, c .before .before .before .before .before .before .before .before .before .before .loop-test .taken)
+room c = omega (arith, c .before .before .before .before .before .before .before .before .before .before .before .loop .inv .3, c .before .before .before .before .before .before .before .before .before .before .before .before .before .before .before .before .pre .1, c .before .before .before .before .before .before .before .before .before .before .loop-test .taken)
 
 sub-t27 : tie.Need-sub-t27 Inv-loop μ-loop
 sub-t27 c = c .before .before .before .before .before .before .before .before .before .before .before .before .loop .inv .1
@@ -119,7 +133,7 @@ loop-less c = omega (arith, c .before .before .before .before .before .before .b
 loop-again : tie.Need-loop-again Inv-loop μ-loop
 loop-again c =
     let l = c .before .before .before .before .before .before .before .before .before .before .before .before .before .loop in
-    let x = c .before .before .before .before .before .before .before .before .before .before .before .before .before .before .before .before .before .args in
+    let x = c .before .before .before .before .before .before .before .before .before .before .before .before .before .before .before .before .before .before .args in
     let t = turn (c .before .before) in
     let r = room (c .before .before) in (
       omega (arith, c .before .before .before .before .before .before .before .before .before .before .before .before .loop-test .taken),
@@ -128,7 +142,7 @@ loop-again c =
       answers-long t r ∙ l .inv .3,
       l .inv .4
           ∙ goes-on t (c .before .before .before .before .before .before .before .before .before .before .before .before .loop-test .taken) (sym (c .before .before .is-seven .ensures) ∙ c .before .if1 .left) r
-          ∙ ap (λ (u : ℕ). tellsFrom (x .each) (x .records .now) (x .file) (x .start) (l .i + 1) (c .before .before .before .before .before .before .before .before .before .visit-under .last .1 .1 .0) (l .place + u) (back (l .answers) (answerBytes * l .i) (c .before .before .before .before .before .put-answer .last .0))) (sym (c .logged-by .ensures)),
+          ∙ ap (λ (u : ℕ). tellsFrom (x .each) (x .records .now) (fileOf (x .file .now)) (x .start) (l .i + 1) (c .before .before .before .before .before .before .before .before .before .visit-accesses .last .1 .1 .0) (l .place + u) (back (l .answers) (answerBytes * l .i) (c .before .before .before .before .before .put-answer .last .0))) (sym (c .logged-by .ensures)),
       further c,
     )
 
@@ -144,8 +158,8 @@ same-length-4 c = c .before .loop .inv .3
 returns-2 : tie.Need-returns-2 Inv-loop μ-loop
 returns-2 c =
     let l = c .before .loop in
-    let x = c .before .before .before .before .before .args in
-    sym (l .inv .4 ∙ over (x .each) (x .records .now) (x .file) (x .start) (l .i) (l .log) (l .place) (l .answers) (c .loop-test .left))
+    let x = c .before .before .before .before .before .before .args in
+    sym (l .inv .4 ∙ over (x .each) (x .records .now) (fileOf (x .file .now)) (x .start) (l .i) (l .log) (l .place) (l .answers) (c .loop-test .left))
 
 pub visit-each-spec : {M : Type 1} → statement M
 visit-each-spec =
@@ -157,10 +171,10 @@ visit-each-spec =
     loop-holds
     mul-from
     add-to
-    sub-visit-under
-    part-visit-under-start
-    part-visit-under-end
-    visit-under-requires
+    sub-visit-accesses
+    part-visit-accesses-start
+    part-visit-accesses-end
+    visit-accesses-requires
     mul-at
     sub-put-answer
     part-put-answer-start

@@ -12,7 +12,7 @@ is-stopped-requires c κs = search needs
 
 returns : tie.Need-returns
 unfolding accessEvents
-returns c = rw (sym (c .before .is-stopped .ensures) ∙ c .if1 .taken) (silent eventBytes (now (c .before .before .before .args .log)))
+returns c = rw (sym (c .before .is-stopped .ensures) ∙ c .if1 .taken) (silent eventBytes (now (c .before .before .before .before .args .log)))
 
 cut-requires : tie.Need-cut-requires
 cut-requires c κs = search needs
@@ -20,10 +20,13 @@ cut-requires c κs = search needs
 sum-requires : tie.Need-sum-requires
 sum-requires c κs = search needs
 
+size-in-requires : tie.Need-size-in-requires
+size-in-requires c κs = search needs
+
 put-memory-requires : tie.Need-put-memory-requires
 unfolding accessEvents
 put-memory-requires c κs =
-    rw (c .sum .ensures, c .before .cut .ensures) (rw (sym (c .before .before .before .before .is-stopped .ensures) ∙ c .before .before .before .if1 .left) at (c .before .before .before .before .before .before .pre))
+    rw (c .size-in .ensures, c .before .sum .ensures, c .before .before .cut .ensures) (rw (sym (c .before .before .before .before .before .is-stopped .ensures) ∙ c .before .before .before .before .if1 .left) at (c .before .before .before .before .before .before .before .before .pre .1))
 
 same-length : tie.Need-same-length
 same-length c = search needs
@@ -31,7 +34,7 @@ same-length c = search needs
 returns-2 : tie.Need-returns-2
 unfolding accessEvents
 returns-2 c =
-    rw (sym (c .before .before .before .before .before .before .before .is-stopped .ensures) ∙ c .before .before .before .before .before .before .if1 .left, ← c .before .before .before .before .cut .ensures, ← c .before .before .before .sum .ensures) (c .before .before .put-memory .ensures)
+    rw (sym (c .before .before .before .before .before .before .before .before .is-stopped .ensures) ∙ c .before .before .before .before .before .before .before .if1 .left, ← c .before .before .before .before .before .cut .ensures, ← c .before .before .before .before .sum .ensures, ← c .before .before .before .size-in .ensures) (c .before .before .put-memory .ensures)
 
 pub put-access-spec : {M : Type 1} → statement M
 put-access-spec =
@@ -41,6 +44,7 @@ put-access-spec =
     returns
     cut-requires
     sum-requires
+    size-in-requires
     put-memory-requires
     same-length
     returns-2)

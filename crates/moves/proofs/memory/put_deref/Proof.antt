@@ -11,6 +11,7 @@ use Rattle.definition.specs.declared.Event.{Event}
 use Rattle.definition.specs.declared.Event.the-variants.{RegisterRead, RegisterWrite}
 use Rattle.implicit.specs.declared.Way.the-variants.{Read, Write}
 use Rattle.definition.specs.Steps.{maskRegisters}
+use Rattle.record.specs.Records.{recordOf}
 use Rattle.event.specs.Moves.{moved}
 use Rattle.moves.specs.Touches.{accessEvents, derefEvents}
 use Rattle.moves.proofs.memory.put_deref.Statement.{statement}
@@ -23,33 +24,33 @@ abbrev seg1 : tie.Start → List Event
 seg1 s = moved Read (maskRegisters (s .args .mask))
 
 abbrev seg2 : tie.Start → List Event
-seg2 s = accessEvents (s .args .x) (s .args .way) (s .args .at) (s .args .added)
+seg2 s = accessEvents (recordOf (now (s .args .b))) (s .args .way) (s .args .at) (s .args .added)
 
 abbrev every : tie.Start → List Event
 every s = flat (seg0 s ∷ seg1 s ∷ seg2 s ∷ [])
 
 room : (s : tie.Start) → size eventBytes (every s) ≤ length (now (s .args .log))
 unfolding derefEvents
-room s = s .pre
+room s = s .pre .1
 
-one : (c : tie.After-put-register) → let s = c .before .before .before in
+one : (c : tie.After-put-register) → let s = c .before .before .before .before in
     Going eventBytes (every s) (seg1 s ∷ seg2 s ∷ []) (now (s .args .log)) (c .put-register .last .0) (c .put-register .result)
 unfolding derefEvents
-one c = let s = c .before .before .before in first {seg = seg0 s} (seg1 s ∷ seg2 s ∷ []) (c .put-register .ensures) (room s) (s .good .0 .0)
+one c = let s = c .before .before .before .before in first {seg = seg0 s} (seg1 s ∷ seg2 s ∷ []) (c .put-register .ensures) (room s) (s .good .0 .0)
 
-two : (c : tie.After-put-mask) → let s = c .before .before .before .before .before .before .before in
+two : (c : tie.After-put-mask) → let s = c .before .before .before .before .before .before .before .before in
     Going eventBytes (every s) (seg2 s ∷ []) (now (s .args .log)) (back (c .before .before .before .before .put-register .last .0) (c .before .before .before .before .put-register .result) (c .put-mask .last .0)) ((c .before .before .before .before .put-register .result) + c .put-mask .result)
 unfolding derefEvents
 two c = next (one (c .before .before .before .before)) (c .put-mask .ensures)
 
-three : (c : tie.After-put-access) → let s = c .before .before .before .before .before .before .before .before .before .before .before in
+three : (c : tie.After-put-access) → let s = c .before .before .before .before .before .before .before .before .before .before .before .before in
     Going eventBytes (every s) ([]) (now (s .args .log)) (back (back (c .before .before .before .before .before .before .before .before .put-register .last .0) (c .before .before .before .before .before .before .before .before .put-register .result) (c .before .before .before .before .put-mask .last .0)) ((c .before .before .before .before .before .before .before .before .put-register .result) + c .before .before .before .before .put-mask .result) (c .put-access .last .0)) (((c .before .before .before .before .before .before .before .before .put-register .result) + c .before .before .before .before .put-mask .result) + c .put-access .result)
 unfolding derefEvents
 three c = next (two (c .before .before .before .before)) (c .put-access .ensures)
 
 put-register-requires : tie.Need-put-register-requires
 unfolding derefEvents
-put-register-requires c κs = let s = c .before .before in fits-first eventBytes (seg0 s) (seg1 s ∷ seg2 s ∷ []) (room s)
+put-register-requires c κs = let s = c .before .before .before in fits-first eventBytes (seg0 s) (seg1 s ∷ seg2 s ∷ []) (room s)
 
 sub-put-mask : tie.Need-sub-put-mask
 unfolding derefEvents
@@ -83,7 +84,7 @@ part-put-access-end c = search needs
 
 put-access-requires : tie.Need-put-access-requires
 unfolding derefEvents
-put-access-requires c κs = fits (two (c .before .before .before))
+put-access-requires c κs = (c .before .before .before .before .before .before .before .before .before .before .before .pre .0, fits (two (c .before .before .before)))
 
 add-result : tie.Need-add-result
 unfolding derefEvents

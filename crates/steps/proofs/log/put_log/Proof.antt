@@ -31,31 +31,31 @@ every s = flat (seg0 s ∷ seg1 s ∷ seg2 s ∷ seg3 s ∷ [])
 
 room : (s : tie.Start) → size eventBytes (every s) ≤ length (now (s .args .log))
 unfolding logEvents
-room s = s .pre
+room s = s .pre .1
 
-one : (c : tie.After-put-list) → let s = c .before .before .before in
+one : (c : tie.After-put-list) → let s = c .before .before .before .before in
     Going eventBytes (every s) (seg1 s ∷ seg2 s ∷ seg3 s ∷ []) (now (s .args .log)) (c .put-list .last .0) (c .put-list .result)
 unfolding logEvents
-one c = let s = c .before .before .before in first {seg = seg0 s} (seg1 s ∷ seg2 s ∷ seg3 s ∷ []) (c .put-list .ensures) (room s) (s .good .0 .0)
+one c = let s = c .before .before .before .before in first {seg = seg0 s} (seg1 s ∷ seg2 s ∷ seg3 s ∷ []) (c .put-list .ensures) (room s) (s .good .0 .0)
 
-two : (c : tie.After-put-flags-read) → let s = c .before .before .before .before .before .before .before in
+two : (c : tie.After-put-flags-read) → let s = c .before .before .before .before .before .before .before .before in
     Going eventBytes (every s) (seg2 s ∷ seg3 s ∷ []) (now (s .args .log)) (back (c .before .before .before .before .put-list .last .0) (c .before .before .before .before .put-list .result) (c .put-flags-read .last .0)) ((c .before .before .before .before .put-list .result) + c .put-flags-read .result)
 unfolding logEvents
 two c = next (one (c .before .before .before .before)) (c .put-flags-read .ensures)
 
-three : (c : tie.After-put-flags-write) → let s = c .before .before .before .before .before .before .before .before .before .before .before in
+three : (c : tie.After-put-flags-write) → let s = c .before .before .before .before .before .before .before .before .before .before .before .before in
     Going eventBytes (every s) (seg3 s ∷ []) (now (s .args .log)) (back (back (c .before .before .before .before .before .before .before .before .put-list .last .0) (c .before .before .before .before .before .before .before .before .put-list .result) (c .before .before .before .before .put-flags-read .last .0)) ((c .before .before .before .before .before .before .before .before .put-list .result) + c .before .before .before .before .put-flags-read .result) (c .put-flags-write .last .0)) (((c .before .before .before .before .before .before .before .before .put-list .result) + c .before .before .before .before .put-flags-read .result) + c .put-flags-write .result)
 unfolding logEvents
 three c = next (two (c .before .before .before .before)) (c .put-flags-write .ensures)
 
-four : (c : tie.After-put-operands) → let s = c .before .before .before .before .before .before .before .before .before .before .before .before .before .before .before in
+four : (c : tie.After-put-operands) → let s = c .before .before .before .before .before .before .before .before .before .before .before .before .before .before .before .before in
     Going eventBytes (every s) ([]) (now (s .args .log)) (back (back (back (c .before .before .before .before .before .before .before .before .before .before .before .before .put-list .last .0) (c .before .before .before .before .before .before .before .before .before .before .before .before .put-list .result) (c .before .before .before .before .before .before .before .before .put-flags-read .last .0)) ((c .before .before .before .before .before .before .before .before .before .before .before .before .put-list .result) + c .before .before .before .before .before .before .before .before .put-flags-read .result) (c .before .before .before .before .put-flags-write .last .0)) (((c .before .before .before .before .before .before .before .before .before .before .before .before .put-list .result) + c .before .before .before .before .before .before .before .before .put-flags-read .result) + c .before .before .before .before .put-flags-write .result) (c .put-operands .last .0)) ((((c .before .before .before .before .before .before .before .before .before .before .before .before .put-list .result) + c .before .before .before .before .before .before .before .before .put-flags-read .result) + c .before .before .before .before .put-flags-write .result) + c .put-operands .result)
 unfolding logEvents
 four c = next (three (c .before .before .before .before)) (c .put-operands .ensures)
 
 put-list-requires : tie.Need-put-list-requires
 unfolding logEvents
-put-list-requires c κs = let s = c .before .before in fits-first eventBytes (seg0 s) (seg1 s ∷ seg2 s ∷ seg3 s ∷ []) (room s)
+put-list-requires c κs = let s = c .before .before .before in fits-first eventBytes (seg0 s) (seg1 s ∷ seg2 s ∷ seg3 s ∷ []) (room s)
 
 sub-put-flags-read : tie.Need-sub-put-flags-read
 unfolding logEvents
@@ -72,9 +72,9 @@ put-flags-read-requires : tie.Need-put-flags-read-requires
 unfolding logEvents
 put-flags-read-requires c κs = fits (one (c .before .before .before))
 
-add-b : tie.Need-add-b
+add-c : tie.Need-add-c
 unfolding logEvents
-add-b c = ends (one (c .before .before .before .before .before .before)) (c .before .before .put-flags-read .ensures)
+add-c c = ends (one (c .before .before .before .before .before .before)) (c .before .before .put-flags-read .ensures)
 
 sub-put-flags-write : tie.Need-sub-put-flags-write
 unfolding logEvents
@@ -91,9 +91,9 @@ put-flags-write-requires : tie.Need-put-flags-write-requires
 unfolding logEvents
 put-flags-write-requires c κs = fits (two (c .before .before .before))
 
-add-c : tie.Need-add-c
+add-d : tie.Need-add-d
 unfolding logEvents
-add-c c = ends (two (c .before .before .before .before .before .before)) (c .before .before .put-flags-write .ensures)
+add-d c = ends (two (c .before .before .before .before .before .before)) (c .before .before .put-flags-write .ensures)
 
 sub-put-operands : tie.Need-sub-put-operands
 unfolding logEvents
@@ -108,7 +108,7 @@ part-put-operands-end c = search needs
 
 put-operands-requires : tie.Need-put-operands-requires
 unfolding logEvents
-put-operands-requires c κs = fits (three (c .before .before .before))
+put-operands-requires c κs = (c .before .before .before .before .before .before .before .before .before .before .before .before .before .before .before .pre .0, fits (three (c .before .before .before)))
 
 add-result : tie.Need-add-result
 unfolding logEvents
@@ -131,12 +131,12 @@ put-log-spec =
     part-put-flags-read-start
     part-put-flags-read-end
     put-flags-read-requires
-    add-b
+    add-c
     sub-put-flags-write
     part-put-flags-write-start
     part-put-flags-write-end
     put-flags-write-requires
-    add-c
+    add-d
     sub-put-operands
     part-put-operands-start
     part-put-operands-end
