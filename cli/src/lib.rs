@@ -33,6 +33,7 @@ mod number;
 mod output;
 pub mod pages;
 mod progress;
+mod record;
 mod show;
 mod source;
 mod status;

@@ -1,0 +1,2 @@
+#include "recorder.h"
+int record_arm(const Asked *asked) { return complain(2, "not made yet", asked->name); }
