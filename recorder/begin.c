@@ -14,8 +14,7 @@ static Thread *thread_of(Process *p, pid_t id) {
     return NULL;
 }
 
-// Whether the thread stands behind the breakpoint; then it is set back to before it.
-static int at_breakpoint(Thread *t, uint64_t address) {
+int process_step_back(Thread *t, uint64_t address) {
     struct user_regs_struct u;
     if (ptrace(PTRACE_GETREGS, t->id, 0, &u) != 0 || u.rip != address + 1)
         return 0;
@@ -35,7 +34,7 @@ static void stop_others(Process *p, uint64_t address) {
         if (stop == GONE)
             k--;
         else if (stop == TRAPPED)
-            at_breakpoint(t, address);
+            process_step_back(t, address);
     }
 }
 
@@ -70,7 +69,7 @@ int process_run_to(Process *p, uint64_t address, const char **why) {
             *why = "it ended before the recording began";
             return -1;
         }
-        if (stop == TRAPPED && at_breakpoint(t, address)) {
+        if (stop == TRAPPED && process_step_back(t, address)) {
             process_write(p, address, &was, 1);
             stop_others(p, address);
             return 0;

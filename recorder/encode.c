@@ -249,6 +249,7 @@ int encode(const uint8_t *code, size_t bytes, uint64_t pc, Encoded *e) {
     finish(e, &b);
     e->is_syscall = in.meta.category == ZYDIS_CATEGORY_SYSCALL || in.meta.category == ZYDIS_CATEGORY_INTERRUPT;
     set_counter(e, &in);
+    e->falls = !e->is_syscall && !e->counter && in.meta.branch_type == ZYDIS_BRANCH_TYPE_NONE && in.meta.category != ZYDIS_CATEGORY_RET;
     return 0;
 }
 

@@ -8,13 +8,15 @@
 static const char USAGE[] =
     "usage: machhurel record run [--from FUNCTION] [--to FUNCTION] [--max N] [--watch NAME].. [--full] -o X -- PROGRAM ARGUMENTS\n"
     "       machhurel record arm --watch NAME [--after N] [--from FUNCTION] [--max N] -o X -- PROGRAM ARGUMENTS\n"
-    "       machhurel record check [--from FUNCTION] [--max N] [-- PROGRAM ARGUMENTS]\n\n"
+    "       machhurel record check [--from FUNCTION] [--max N] [--spoil] [--emulated] [-- PROGRAM ARGUMENTS]\n\n"
     "run steps through every instruction; arm runs at full speed, and stops where the variable is touched; check asks whether the\n"
     "records are right on this machine. They write X.trace and X.side, which `machhurel watch X NAME` reads.\n\n"
     "  --from FUNCTION  begin there; main if nothing is said        --to FUNCTION  end there\n"
     "  --max N          end after N records                         --full         all registers before each record\n"
     "  --watch NAME     a variable, as position, frame.pos, frame+59:8; all of 1 to 8 bytes if none is named\n"
-    "  --after N        step through N instructions behind each touch\n";
+    "  --after N        step through N instructions behind each touch\n"
+    "  --spoil          judge records that are spoilt on purpose: each must be noticed\n"
+    "  --emulated       never a debug register in a single step: QEMU hangs there\n";
 
 static int is_number(const char *word, uint64_t *number) {
     char *end;
@@ -44,6 +46,10 @@ static int take_option(Asked *asked, const char *name, char *value) {
     return 1;
 }
 
+static int *flag_of(Asked *asked, const char *word) {
+    return !strcmp(word, "--full") ? &asked->full : !strcmp(word, "--spoil") ? &asked->spoil : !strcmp(word, "--emulated") ? &asked->emulated : NULL;
+}
+
 // Everything up to `--`; 0 where a word is wrong.
 static int take_words(Asked *asked, char **words) {
     static char *nothing[] = {NULL};
@@ -53,8 +59,9 @@ static int take_words(Asked *asked, char **words) {
             asked->program = words + 1;
             return 1;
         }
-        if (!strcmp(*words, "--full")) {
-            asked->full = 1;
+        int *flag = flag_of(asked, *words);
+        if (flag) {
+            *flag = 1;
             words++;
         } else if (take_option(asked, words[0], words[1])) {
             words += 2;

@@ -39,7 +39,7 @@ typedef enum { STEPPED, AT_HANDLER, BEFORE, GONE, WATCHED, TRAPPED, CHANGED } St
 
 int process_start(Process *p, char **words, const char **why); // stopped before its first instruction; 0, or -1 and why
 int process_run_to(Process *p, uint64_t address, const char **why); // 0, or -1 and why; all threads are stopped then
-Thread *process_step(Process *p, Thread *t, Stop *stop);     // sets it going for one instruction and waits for it
+int process_step_back(Thread *t, uint64_t address); // whether it stands behind a breakpoint there; then it is set back to before it
 int process_resume(Thread *t, int request);
 Stop process_wait(Process *p, Thread *t, int *ready, int wait); // *ready: it has stopped
 void process_release(Process *p); // lets it run on, unwatched, and waits for its end

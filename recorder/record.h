@@ -22,6 +22,7 @@ typedef struct {
     uint8_t zero[40];             // what a repeated string instruction is where its counter is 0
     uint8_t counter;              // 8 or 4 where it is repeated: the bytes of the counter; else 0
     uint8_t is_syscall;
+    uint8_t falls;                // the next instruction is the one behind it
     How how;
     uint32_t needs;  // bit k: an address of the record needs slot k
     const char *why; // where it is not exact

@@ -33,7 +33,7 @@ typedef struct {
     const char *watch[MOST_VARIABLES];
     int watch_count;
     uint64_t max, after;
-    int full;
+    int full, spoil, emulated;
     char **program;
 } Asked;
 

@@ -1,31 +1,8 @@
 // What is said of a step in the side file: who touched a watched variable, and what was in it then.
 #include "../include/machhurel.h"
 #include "recorder.h"
+#include "witness.h"
 #include <string.h>
-
-typedef struct {
-    int writes;
-    uint64_t address;
-    unsigned size;
-} Access;
-
-// The next memory event of a log at a known address; 0 at its end.
-static int next_access(const uint8_t *log, size_t length, size_t *at, Access *access) {
-    while (*at < length) {
-        const uint8_t *event = log + *at;
-        int kind = event[0];
-        *at += kind <= 2 ? 3 : kind <= 4 ? 10 : 2;
-        if (kind != 3 && kind != 4)
-            continue;
-        access->writes = kind == 4;
-        access->address = 0;
-        for (int i = 0; i < 8; i++)
-            access->address |= (uint64_t)event[1 + i] << 8 * i;
-        access->size = event[9];
-        return 1;
-    }
-    return 0;
-}
 
 // Which bytes of a variable an access reaches: bit i for byte i.
 static unsigned reached(const Variable *v, const Access *a) {
