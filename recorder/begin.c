@@ -44,8 +44,7 @@ static void run_all(Process *p) {
             process_resume(&p->threads[k], PTRACE_CONT);
 }
 
-// The next thread that has stopped, without its stop being taken.
-static Thread *next_stopped(Process *p) {
+Thread *process_next(Process *p) {
     siginfo_t about;
     memset(&about, 0, sizeof about);
     while (waitid(P_ALL, 0, &about, WEXITED | WSTOPPED | WNOWAIT | __WALL) != 0)
@@ -63,7 +62,7 @@ int process_run_to(Process *p, uint64_t address, const char **why) {
     for (;;) {
         int ready;
         run_all(p);
-        Thread *t = next_stopped(p);
+        Thread *t = process_next(p);
         Stop stop = t ? process_wait(p, t, &ready, 1) : GONE;
         if (p->ended || !p->thread_count || stop == CHANGED || !t) {
             *why = "it ended before the recording began";

@@ -227,6 +227,18 @@ static void finish(Encoded *e, Build *b) {
     e->needs = b->fail ? 0 : needs_of(r);
 }
 
+static uint32_t writes_of(const Insn *in, const Op *ops) {
+    uint32_t slots = 0;
+    for (int i = 0; i < in->operand_count; i++) {
+        if (ops[i].type != ZYDIS_OPERAND_TYPE_REGISTER || !(access_of(&ops[i]) & 2))
+            continue;
+        ZydisRegister whole = ZydisRegisterGetLargestEnclosing(ZYDIS_MACHINE_MODE_LONG_64, ops[i].reg.value);
+        if (ZydisRegisterGetClass(whole) == ZYDIS_REGCLASS_GPR64)
+            slots |= 1u << ZydisRegisterGetId(whole);
+    }
+    return slots;
+}
+
 int encode(const uint8_t *code, size_t bytes, uint64_t pc, Encoded *e) {
     static ZydisDecoder decoder;
     static ZydisFormatter formatter;
@@ -248,6 +260,7 @@ int encode(const uint8_t *code, size_t bytes, uint64_t pc, Encoded *e) {
     describe(&b);
     finish(e, &b);
     e->is_syscall = in.meta.category == ZYDIS_CATEGORY_SYSCALL || in.meta.category == ZYDIS_CATEGORY_INTERRUPT;
+    e->writes = writes_of(&in, ops);
     set_counter(e, &in);
     e->falls = !e->is_syscall && !e->counter && in.meta.branch_type == ZYDIS_BRANCH_TYPE_NONE && in.meta.category != ZYDIS_CATEGORY_RET;
     return 0;

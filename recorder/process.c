@@ -142,7 +142,6 @@ uint64_t process_debug(const Thread *t, int which) {
 int process_resume(Thread *t, int request) {
     int signal = t->signal;
     t->signal = 0;
-    t->delivered = signal != 0;
     t->runs = ptrace(request, t->id, 0, signal) == 0;
     return t->runs ? 0 : -1;
 }

@@ -11,7 +11,7 @@ typedef struct {
     pid_t id;
     int runs;     // it was set going, and has not stopped since
     int signal;   // to deliver when it is set going
-    int delivered; // a signal is on its way to its handler
+    int armed;    // its debug registers are set
 } Thread;
 
 typedef struct {
@@ -41,6 +41,7 @@ int process_start(Process *p, char **words, const char **why); // stopped before
 int process_run_to(Process *p, uint64_t address, const char **why); // 0, or -1 and why; all threads are stopped then
 int process_step_back(Thread *t, uint64_t address); // whether it stands behind a breakpoint there; then it is set back to before it
 int process_resume(Thread *t, int request);
+Thread *process_next(Process *p); // the next thread that has stopped or ended, its stop not yet taken
 Stop process_wait(Process *p, Thread *t, int *ready, int wait); // *ready: it has stopped
 void process_release(Process *p); // lets it run on, unwatched, and waits for its end
 int process_registers(const Thread *t, Regs *regs);

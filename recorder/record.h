@@ -25,6 +25,7 @@ typedef struct {
     uint8_t falls;                // the next instruction is the one behind it
     How how;
     uint32_t needs;  // bit k: an address of the record needs slot k
+    uint32_t writes; // bit k: the instruction writes slot k, or a part of it
     const char *why; // where it is not exact
     char text[96];   // disassembly
 } Encoded;
