@@ -17,6 +17,7 @@ static void add_small_stack(Build *b, int access) {
     }
     set_register(b, 1, 0, 4);
     b->explicit_memory = 1;
+    b->address_size = 0; // it does not reach the stack
     b->r[16] = 2;
     if (access & 2)
         put64(b->r + 18, (uint64_t)-2);
@@ -102,6 +103,7 @@ static void add_operands(Build *b) {
 
 // rsp <- rbp + 8, rbp <- [rbp]
 static void add_leave(Build *b) {
+    b->address_size = 0; // it does not reach the stack
     set_register(b, 0, 0, 4);
     set_register(b, 1, 0, 5);
     b->r[16] = 8;
@@ -112,6 +114,7 @@ static void add_leave(Build *b) {
 
 // [rsp - 8] <- rbp, rbp <- rsp - 8, rsp <- rsp - 8 - imm
 static void add_enter(Build *b) {
+    b->address_size = 0;
     set_register(b, 0, 0, 5);
     set_register(b, 1, 0, 4);
     b->r[16] = 8;

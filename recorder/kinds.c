@@ -83,7 +83,7 @@ static const char *by_category(const Insn *in) {
         return "as many addresses as a vector has lanes";
     case ZYDIS_CATEGORY_VTX: case ZYDIS_CATEGORY_SGX: case ZYDIS_CATEGORY_IO: case ZYDIS_CATEGORY_IOSTRINGOP:
     case ZYDIS_CATEGORY_CET: case ZYDIS_CATEGORY_ENQCMD: case ZYDIS_CATEGORY_AMX_TILE: case ZYDIS_CATEGORY_TSX_LDTRK:
-    case ZYDIS_CATEGORY_UINTR:
+    case ZYDIS_CATEGORY_UINTR: case ZYDIS_CATEGORY_MPX:
         return in->mnemonic == ZYDIS_MNEMONIC_ENDBR64 || in->mnemonic == ZYDIS_MNEMONIC_ENDBR32 || in->mnemonic == ZYDIS_MNEMONIC_RDSSPQ ||
                        in->mnemonic == ZYDIS_MNEMONIC_RDSSPD
                    ? NULL
@@ -110,7 +110,7 @@ static const char *by_name(const Insn *in) {
 
 // Why no record can say what it does, or NULL.
 const char *why_complex(const Insn *in, const Op *ops) {
-    const char *why = by_category(in);
+    const char *why = in->encoding == ZYDIS_INSTRUCTION_ENCODING_MVEX ? "an instruction of another processor" : by_category(in);
     if (!why)
         why = by_name(in);
     if (!why && is_bit_test(in) && ops[0].type == ZYDIS_OPERAND_TYPE_MEMORY && ops[1].type != ZYDIS_OPERAND_TYPE_IMMEDIATE)

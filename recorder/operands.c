@@ -35,6 +35,10 @@ static int place_of(const ZydisDecodedInstruction *in, const ZydisDecodedOperand
         *at = regs->slot[3] + (regs->slot[0] & 0xff);
         return 0;
     }
+    if (in->mnemonic == ZYDIS_MNEMONIC_LEAVE) { // an address-size prefix does not reach the stack, and Zydis has it do so
+        *at = regs->slot[5];
+        return 0;
+    }
     ZyanU64 address;
     if (!ZYAN_SUCCESS(ZydisCalcAbsoluteAddressEx(in, o, regs->slot[SLOT_RIP], &c, &address)))
         return -1;
@@ -54,7 +58,7 @@ static void add(Accesses *into, int writes, uint64_t at, unsigned size) {
 
 static int touches_nothing(const ZydisDecodedInstruction *in, const ZydisDecodedOperand *o) {
     return o->type != ZYDIS_OPERAND_TYPE_MEMORY || o->mem.type == ZYDIS_MEMOP_TYPE_AGEN || in->meta.category == ZYDIS_CATEGORY_PREFETCH ||
-           in->meta.category == ZYDIS_CATEGORY_WIDENOP || in->meta.category == ZYDIS_CATEGORY_NOP;
+           in->meta.category == ZYDIS_CATEGORY_PREFETCHWT1 || in->meta.category == ZYDIS_CATEGORY_WIDENOP || in->meta.category == ZYDIS_CATEGORY_NOP;
 }
 
 static int counts_to_nothing(const ZydisDecodedInstruction *in, const Regs *regs) {

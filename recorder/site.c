@@ -13,7 +13,8 @@ static void tell(Recorder *r, const Site *s) {
     uint64_t linked = module ? s->pc - module->bias : 0;
     const Line *line = image ? image_line(image, linked) : NULL;
     const Symbol *function = image ? image_function(image, linked) : NULL;
-    fprintf(side, "site %u 0x%llx %u %s ", s->number, (unsigned long long)s->pc, s->e.length, how_word(s->e.how));
+    fprintf(side, "site %u 0x%llx %u %s %u ", s->number, (unsigned long long)s->pc, s->e.length, how_word(s->e.how),
+            s->e.record[1] | s->e.record[2] << 8);
     out_word(&r->out, line ? line->file : "-");
     fprintf(side, ":%u ", line ? line->line : 0);
     out_word(&r->out, function ? function->name : "-");
