@@ -110,7 +110,9 @@ static const char *by_name(const Insn *in) {
 
 // Why no record can say what it does, or NULL.
 const char *why_complex(const Insn *in, const Op *ops) {
-    const char *why = in->encoding == ZYDIS_INSTRUCTION_ENCODING_MVEX ? "an instruction of another processor" : by_category(in);
+    int is_other = in->encoding == ZYDIS_INSTRUCTION_ENCODING_MVEX || in->meta.isa_ext == ZYDIS_ISA_EXT_KNC ||
+                   in->meta.isa_ext == ZYDIS_ISA_EXT_KNCE || in->meta.isa_ext == ZYDIS_ISA_EXT_KNCV;
+    const char *why = is_other ? "an instruction of another processor" : by_category(in);
     if (!why)
         why = by_name(in);
     if (!why && is_bit_test(in) && ops[0].type == ZYDIS_OPERAND_TYPE_MEMORY && ops[1].type != ZYDIS_OPERAND_TYPE_IMMEDIATE)

@@ -29,7 +29,8 @@ use block::{Block, Look};
 use html::Target;
 use jobs::{Jobs, Lost};
 use machhurel::Watch;
-use std::ffi::OsString;
+use std::ffi::{OsStr, OsString};
+use std::os::unix::ffi::OsStrExt;
 use story::{Side, Story};
 use teller::Teller;
 
@@ -91,7 +92,7 @@ impl Asked {
         let mut side = None;
         let (trace, address, length) = match arguments.operands.as_slice() {
             [trace, address, length] => (trace.clone(), harmless(address), harmless(length)),
-            [name, variable] => {
+            [name, variable] if !starts_with_digit(variable) => {
                 let (trace, beside) = story::paths(name);
                 let found = match Side::read(&beside, &harmless(variable)) {
                     Ok(found) => found,
@@ -102,7 +103,7 @@ impl Asked {
                 (trace.into_os_string(), numbers.0, numbers.1)
             }
             _ => {
-                let words = "expected a trace, an address and a length, as trace 0x1008 8, or a recording and a name";
+                let words = "expected a trace, an address and a length, as trace 0x1008 8, or a recording and a name, as x position";
                 return Err(Instead::Wrong(words.to_string()));
             }
         };
@@ -133,6 +134,11 @@ impl Asked {
         let html = self.html.as_ref();
         html.map(|name| Target::of(name, &self.source)).transpose()
     }
+}
+
+/// Whether a word is a number rather than a name.
+fn starts_with_digit(word: &OsStr) -> bool {
+    word.as_bytes().first().map_or(true, u8::is_ascii_digit)
 }
 
 /// Why a replay ended before the trace did.
