@@ -23,12 +23,13 @@ static void damage(uint8_t *bytes, size_t size, const size_t *places, size_t cou
     }
 }
 
-static void ask(const char *path) {
+// Whether it could be read at all.
+static int ask(const char *path) {
     const char *why;
     uint64_t offset, bytes;
     Image *image = image_open(path, &why);
     if (!image)
-        return;
+        return 0;
     for (uint64_t at = 0; at < 0x8000; at += 7) {
         const Line *line = image_line(image, at);
         const Symbol *symbol = image_function(image, at);
@@ -38,6 +39,7 @@ static void ask(const char *path) {
     image_symbol(image, "position");
     image_member(image, "frame.pos", &offset, &bytes);
     image_close(image);
+    return 1;
 }
 
 int main(int count, char **words) {
@@ -49,6 +51,8 @@ int main(int count, char **words) {
     if (size < 4096)
         return 2;
     fclose(f);
+    good[18] = 62; // any processor's program will do: it is read as one for x86-64
+    good[19] = 0;
     // the headers, and where the sections with names and lines begin
     size_t places[64] = {0, 64}, known = 2;
     uint64_t table;
@@ -60,6 +64,7 @@ int main(int count, char **words) {
         places[known++] = (size_t)at;
     }
     state = strtoull(words[2], NULL, 0) * 2654435761u + 1;
+    long read = 0;
     char path[] = "/tmp/damaged.XXXXXX";
     int fd = mkstemp(path);
     for (long k = atol(words[3]); k > 0 && fd >= 0; k--) {
@@ -68,9 +73,9 @@ int main(int count, char **words) {
         damage(bad, size, places, known);
         if (ftruncate(fd, 0) || pwrite(fd, bad, length, 0) != (ssize_t)length)
             return 2;
-        ask(path);
+        read += ask(path);
     }
     unlink(path);
-    printf("read without harm\n");
-    return 0;
+    printf("%ld read without harm\n", read);
+    return read == 0; // all refused at once would show nothing
 }

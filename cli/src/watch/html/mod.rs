@@ -47,11 +47,18 @@ pub(super) struct Page<'a> {
 impl Page<'_> {
     /// The page's bytes. What is known by name is shortened where the page would be too long.
     pub(super) fn bytes(&self) -> Vec<u8> {
-        let long = self.with(true);
-        match long.len() < MOST {
-            true => long,
-            false => self.with(false),
+        let nameless = Page {
+            story: None,
+            ..*self
+        };
+        let mut page = self.with(true);
+        if page.len() >= MOST {
+            page = self.with(false);
         }
+        if page.len() >= MOST {
+            page = nameless.with(false);
+        }
+        page
     }
 
     fn with(&self, values: bool) -> Vec<u8> {

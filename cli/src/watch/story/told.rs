@@ -66,7 +66,7 @@ impl Story {
     fn from(&self) -> String {
         let mut names: Vec<String> = Vec::new();
         for place in &self.writers {
-            let name = self.place_name(place);
+            let name = self.site_name(place.site);
             if !names.contains(&name) {
                 names.push(name);
             }
@@ -128,8 +128,8 @@ impl Story {
         }
     }
 
-    fn place_name(&self, place: &Place) -> String {
-        let spot = self.spot(place.site);
+    fn site_name(&self, site: u64) -> String {
+        let spot = self.spot(site);
         spot.map_or("a place that is not known".to_string(), Spot::name)
     }
 
@@ -156,23 +156,41 @@ impl Story {
             return;
         }
         put!(out, "{what}\n");
+        let mut told: Vec<u64> = Vec::new();
         for place in places {
-            let function = self.spot(place.site).map_or("", |spot| spot.function.as_str());
-            let part = if place.bytes == self.full { "whole" } else { "part" };
-            put!(
-                out,
-                "  {}  {}  {} of {}, {part}  {}",
-                self.place_name(place),
-                if function.is_empty() { "-" } else { function },
-                bytes(place.bytes),
-                self.side.length,
-                many(place.count, one)
-            );
-            if place.never > 0 {
-                put!(out, ", {} of a value that never existed", grouped(place.never));
+            if !told.contains(&place.site) {
+                told.push(place.site);
+                self.put_site(out, places, place.site, one);
             }
-            put!(out, "\n");
         }
+    }
+
+    /// What came from one place; a repeated instruction touches other bytes each time.
+    fn put_site(&self, out: &mut Vec<u8>, places: &[Place], site: u64, one: &str) {
+        let here = || places.iter().filter(|place| place.site == site);
+        let all = here().fold(0, |bytes, place| bytes | place.bytes);
+        let count = here().map(|place| place.count).fold(0, u64::saturating_add);
+        let never = here().map(|place| place.never).fold(0, u64::saturating_add);
+        let part = match (here().count(), all == self.full) {
+            (1, true) => "whole".to_string(),
+            (1, false) => "part".to_string(),
+            (n, _) => format!("in {n} parts"),
+        };
+        let spot = self.spot(site);
+        let function = spot.map_or("", |spot| spot.function.as_str());
+        put!(
+            out,
+            "  {}  {}  {} of {}, {part}  {}",
+            self.site_name(site),
+            if function.is_empty() { "-" } else { function },
+            bytes(all),
+            self.side.length,
+            many(count, one)
+        );
+        if never > 0 {
+            put!(out, ", {} of a value that never existed", grouped(never));
+        }
+        put!(out, "\n");
     }
 
     fn put_read(&self, out: &mut Vec<u8>, read: &Read) {
