@@ -222,6 +222,7 @@ int record_arm(const Asked *asked) {
         if (arm->r.process.id)
             kill(arm->r.process.id, SIGKILL);
     } else {
+        fputs("note recorded at full speed: what the kernel stores is seen only when the variable is touched next\n", arm->r.out.side);
         run_armed(arm);
         status = recorder_end(&arm->r, asked, arm->ended);
     }

@@ -1,6 +1,6 @@
 //! A change of the variable byte by byte: as a picture, and step by step in words.
 use super::super::moment::{Moment, Touch};
-use super::super::story::Story;
+use super::super::story::{Met, Story};
 use super::super::text::cause;
 use super::changes::Change;
 use super::words::{bytes, escaped, grouped, many};
@@ -231,8 +231,9 @@ fn put_step(out: &mut Vec<u8>, step: &Step<'_>, owners: &[Owner], story: Option<
             let (words, bytes) = (words.join(", "), bytes(touch.bytes));
             put!(
                 out,
-                "{} reads {bytes}: <b class=\"{class}\">{words}</b>",
-                place(touch, story)
+                "{} reads {bytes}: <b class=\"{class}\">{words}</b>{}",
+                place(touch, story),
+                shown(touch, story)
             );
         }
         Step::Moment(Moment::Hidden(record, why)) => put!(
@@ -243,6 +244,23 @@ fn put_step(out: &mut Vec<u8>, step: &Step<'_>, owners: &[Owner], story: Option<
         Step::Moment(Moment::ReadSomewhere) => {}
     }
     put!(out, "</li>\n");
+}
+
+/// What a read showed, where that is known.
+fn shown(touch: &Touch, story: Option<&Story>) -> String {
+    match story.and_then(|story| story.read_in(touch.record)) {
+        None => String::new(),
+        Some(read) => format!(
+            "; it showed <code>{:#x}</code>{}, before it was <code>{:#x}</code>, after it <code>{:#x}</code>",
+            read.value,
+            match read.met {
+                Met::Never => ", which never existed",
+                Met::Whole | Met::Luck | Met::Unsettled => "",
+            },
+            read.before,
+            read.after
+        ),
+    }
 }
 
 fn left_out(n: u64) -> String {

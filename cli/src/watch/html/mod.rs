@@ -133,7 +133,13 @@ impl Page<'_> {
             return;
         }
         put!(out, "<div class=\"wide\">");
-        tables::put_sites(out, writers, Whose::Writers, self.watch.length(), self.story);
+        tables::put_sites(
+            out,
+            writers,
+            Whose::Writers,
+            self.watch.length(),
+            self.story,
+        );
         put!(out, "</div>\n");
         let ends = [
             ("The first to write part of it", self.answer.first_part),
@@ -203,7 +209,13 @@ impl Page<'_> {
             return;
         }
         put!(out, "<div class=\"wide\">");
-        tables::put_sites(out, readers, Whose::Readers, self.watch.length(), self.story);
+        tables::put_sites(
+            out,
+            readers,
+            Whose::Readers,
+            self.watch.length(),
+            self.story,
+        );
         put!(out, "</div>\n");
         if readers.all.iter().any(|site| !site.whole) {
             put!(

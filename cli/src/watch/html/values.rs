@@ -30,9 +30,18 @@ impl Window<'_> {
         let centre = story.never().next().map_or(0, |read| read.record);
         let before = story.values.iter().filter(|(record, _)| *record <= centre);
         let skip = before.count().saturating_sub(CHANGES >> 1);
-        let values: Vec<_> = story.values.iter().skip(skip).take(CHANGES).copied().collect();
+        let values: Vec<_> = story
+            .values
+            .iter()
+            .skip(skip)
+            .take(CHANGES)
+            .copied()
+            .collect();
         let (from, to) = (values.first()?.0, values.last()?.0);
-        let inside = story.reads.iter().filter(|read| read.record >= from && read.record <= to);
+        let inside = story
+            .reads
+            .iter()
+            .filter(|read| read.record >= from && read.record <= to);
         let reads: Vec<_> = inside.take(READS).collect();
         let all = values.iter().map(|(_, value)| *value);
         let all = all.chain(reads.iter().map(|read| read.value));
@@ -136,7 +145,10 @@ fn put_read(out: &mut Vec<u8>, window: &Window<'_>, read: &Read) {
     };
     if read.met == Met::Never {
         let right = window.y(read.after);
-        put!(out, "<path class=\"v e\" stroke-dasharray=\"3 3\" d=\"M{x:.0} {right:.0}V{y:.0}\"/>");
+        put!(
+            out,
+            "<path class=\"v e\" stroke-dasharray=\"3 3\" d=\"M{x:.0} {right:.0}V{y:.0}\"/>"
+        );
     }
     put!(
         out,

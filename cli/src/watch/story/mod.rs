@@ -4,8 +4,8 @@ mod told;
 
 use super::moment::{Moment, Touch};
 use machhurel::Watch;
-pub(super) use side::{paths, Side, Spot};
 use side::Seen;
+pub(super) use side::{paths, Side, Spot};
 
 /// So many reads are kept of each kind, and so many values.
 const KEPT: usize = 1 << 20;
@@ -217,7 +217,10 @@ impl Story {
             Some(_) => Met::Never,
         };
         if read.met == Met::Never {
-            let place = self.readers.iter_mut().find(|place| place.site == read.site);
+            let place = self
+                .readers
+                .iter_mut()
+                .find(|place| place.site == read.site);
             if let Some(place) = place {
                 place.never = place.never.saturating_add(1);
             }
@@ -259,6 +262,12 @@ impl Story {
     /// Who a read came from.
     pub(super) fn reader(&self, read: &Read) -> String {
         self.spot(read.site).map_or(String::new(), Spot::name)
+    }
+
+    /// The first read of a record, once the story has ended.
+    pub(super) fn read_in(&self, record: u64) -> Option<&Read> {
+        let at = self.reads.partition_point(|read| read.record < record);
+        self.reads.get(at).filter(|read| read.record == record)
     }
 
     /// What is known of the instruction before an address.

@@ -38,7 +38,11 @@ fn many(n: u64, one: &str) -> String {
 }
 
 fn bytes(touched: u8) -> String {
-    let name = if touched.count_ones() == 1 { "byte" } else { "bytes" };
+    let name = if touched.count_ones() == 1 {
+        "byte"
+    } else {
+        "bytes"
+    };
     format!("{name} {}", runs(touched, " to "))
 }
 
@@ -145,7 +149,11 @@ impl Story {
                 self.put_read(out, read);
             }
             if never > NAMED as u64 {
-                put!(out, "  and {} more\n", grouped(never.saturating_sub(NAMED as u64)));
+                put!(
+                    out,
+                    "  and {} more\n",
+                    grouped(never.saturating_sub(NAMED as u64))
+                );
             }
         }
         self.put_beside(out);
@@ -255,12 +263,14 @@ impl Story {
         }
         if side.threads > 1 {
             let threads = grouped(side.threads);
-            all.push(format!("{threads} threads were followed, one step at a time"));
+            all.push(format!(
+                "{threads} threads were followed, one step at a time"
+            ));
         }
         all.extend(side.notes.iter().cloned());
         if self.unplaced > 0 {
             let accesses = many(self.unplaced, "access");
-            all.push(format!("{accesses} of the trace are not in the side file"));
+            all.push(format!("{accesses} of the trace not in the side file"));
         }
         if !side.ended {
             all.push("the recording was not ended in order: it may be cut".to_string());
