@@ -227,11 +227,11 @@ Stop process_wait(Process *p, Thread *t, int *ready, int wait) {
 void process_release(Process *p) {
     for (int k = 0; k < p->thread_count; k++) {
         Thread *t = &p->threads[k];
-        int status;
-        if (t->runs && ptrace(PTRACE_INTERRUPT, t->id, 0, 0) == 0)
-            waitpid(t->id, &status, __WALL);
-        for (int d = 0; d < 4; d++)
-            process_set_debug(t, d == 3 ? 7 : d, 0);
+        int status = 0;
+        if (t->runs && ptrace(PTRACE_INTERRUPT, t->id, 0, 0) == 0 && waitpid(t->id, &status, __WALL) == t->id && WIFSTOPPED(status) &&
+            !(status >> 16) && WSTOPSIG(status) != SIGTRAP)
+            t->signal = WSTOPSIG(status); // it came first, and is not lost
+        process_set_debug(t, 7, 0);
         ptrace(PTRACE_DETACH, t->id, 0, t->signal);
     }
     while (!p->ended && waitpid(p->id, &p->status, 0) < 0 && errno == EINTR)
