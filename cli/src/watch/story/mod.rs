@@ -317,3 +317,125 @@ fn mask(bytes: u8) -> u64 {
     }
     u64::from_le_bytes(mask)
 }
+
+#[cfg(test)]
+mod tests {
+    use super::*;
+
+    /// A variable of 8 bytes that holds 1 in both halves, and these accesses: w or r, bytes, value.
+    fn told(accesses: &[(char, u8, u64)]) -> Story {
+        let seen = |(k, (kind, bytes, value)): (usize, &(char, u8, u64))| Seen {
+            record: k as u64,
+            site: 0,
+            writes: *kind == 'w',
+            bytes: *bytes,
+            value: *value,
+        };
+        let side = Side {
+            name: "position".to_string(),
+            length: 8,
+            value: 0x1_0000_0001,
+            seen: accesses.iter().enumerate().map(seen).collect(),
+            ended: true,
+            ..Side::default()
+        };
+        let mut story = Story::new(side, &Watch::new(0x1000, 8).unwrap());
+        for (k, (kind, bytes, _)) in accesses.iter().enumerate() {
+            let touch = Touch {
+                record: k as u64,
+                opcode: 100,
+                rip: None,
+                address: 0x1000,
+                size: 8,
+                bytes: *bytes,
+            };
+            story.take(&match (kind, bytes) {
+                ('r', _) => Moment::Read(touch),
+                (_, 0xFF) => Moment::Whole(touch),
+                _ => Moment::Part(touch),
+            });
+        }
+        story.end();
+        story
+    }
+
+    fn counts(accesses: &[(char, u8, u64)]) -> [u64; 4] {
+        let story = told(accesses);
+        assert_eq!(story.unplaced, 0);
+        story.counts
+    }
+
+    const OLD: u64 = 0x1_0000_0001;
+    const MIXED: u64 = 0x1_0000_0002;
+    const NEW: u64 = 0x2_0000_0002;
+
+    #[test]
+    fn reads_are_told_apart() {
+        let low = ('w', 0x0F, MIXED);
+        let high = ('w', 0xF0, NEW);
+        let read = |value| ('r', 0xFF, value);
+        // whole, luck, never, unsettled
+        assert_eq!(counts(&[read(OLD), low, high, read(NEW)]), [2, 0, 0, 0]);
+        assert_eq!(counts(&[low, read(MIXED), high]), [0, 0, 1, 0]);
+        assert_eq!(counts(&[low, read(MIXED)]), [0, 0, 0, 1]);
+        // the high half stays as it was: what is read is the new value
+        let same = ('w', 0xF0, MIXED);
+        assert_eq!(counts(&[low, read(MIXED), same]), [0, 1, 0, 0]);
+        // a read of one half alone is not between the parts
+        assert_eq!(counts(&[low, ('r', 0x0F, MIXED), high]), [1, 0, 0, 0]);
+        assert_eq!(counts(&[low, ('r', 0xF0, MIXED), high]), [1, 0, 0, 0]);
+        // a whole store ends a change
+        let whole = ('w', 0xFF, NEW);
+        assert_eq!(counts(&[low, read(MIXED), whole, read(NEW)]), [1, 0, 1, 0]);
+    }
+
+    #[test]
+    fn changes_and_by_how_much() {
+        let story = told(&[
+            ('w', 0x0F, MIXED),
+            ('r', 0xFF, MIXED),
+            ('w', 0xF0, NEW),
+            ('w', 0xFF, OLD),
+        ]);
+        assert_eq!((story.changes, story.fewest, story.most), (2, 1, 2));
+        let off: Vec<_> = story.never().map(|read| story.off(read)).collect();
+        assert_eq!(off, [Some(-0x1_0000_0000)]);
+        let said = story.sentence();
+        assert!(said.contains("in 1 to 2 stores"), "{said}");
+        assert!(said.contains("off by -4,294,967,296."), "{said}");
+    }
+
+    #[test]
+    fn what_no_record_tells() {
+        let mut story = told(&[]);
+        story.side.unsaid.push(side::Unsaid {
+            record: 3,
+            value: NEW,
+            by: "the kernel in read()".to_string(),
+        });
+        story.catch_up(2);
+        assert_eq!(story.value, OLD);
+        story.catch_up(3);
+        assert_eq!(story.value, NEW);
+        let words = "changed by the kernel in read(), once, first at record 3";
+        assert_eq!(story.beside(), [words]);
+        assert!(story
+            .sentence()
+            .starts_with("No store to position was seen."));
+    }
+
+    #[test]
+    fn signed_by_length() {
+        let of = |length, value| {
+            let side = Side {
+                length,
+                ..Side::default()
+            };
+            Story::new(side, &Watch::new(0, length).unwrap()).signed(value)
+        };
+        assert_eq!(of(1, 0xFF), -1);
+        assert_eq!(of(2, 0x7FFF), 0x7FFF);
+        assert_eq!(of(4, 0x8000_0000), -0x8000_0000);
+        assert_eq!(of(8, u64::MAX), -1);
+    }
+}

@@ -60,9 +60,9 @@ pub(in super::super) struct Side {
     pub(super) threads: u64,
     /// Whether the recording was ended in order.
     pub(super) ended: bool,
-    names: Vec<String>,
-    chosen: Option<usize>,
-    tids: Vec<String>,
+    pub(super) names: Vec<String>,
+    pub(super) chosen: Option<usize>,
+    pub(super) tids: Vec<String>,
 }
 
 /// The trace and the side file that a name stands for: `X`, or `X.trace`.
