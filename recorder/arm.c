@@ -202,6 +202,8 @@ static void run_armed(Arm *arm) {
             take_stop(arm, t, process_wait(p, t, &ready, 1));
         else
             arm->ended = "the program ended";
+        if (recorder_interrupted && !arm->ended)
+            arm->ended = "interrupted";
     }
 }
 

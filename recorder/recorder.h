@@ -4,6 +4,7 @@
 #include "out.h"
 #include "process.h"
 #include "watch.h"
+#include <signal.h>
 
 enum { BUCKETS = 1 << 14 };
 
@@ -41,7 +42,9 @@ int record_run(const Asked *asked);
 int record_arm(const Asked *asked);
 int record_check(const Asked *asked);
 
-// begin.c, site.c, told.c
+extern volatile sig_atomic_t recorder_interrupted; // the recording is to end, in order
+
+// session.c, site.c, told.c
 int recorder_begin(Recorder *r, const Asked *asked, Regs *regs); // 0, or the exit status
 int recorder_end(Recorder *r, const Asked *asked, const char *words);
 Site *recorder_site(Recorder *r, const Regs *regs);               // NULL where there is no memory left

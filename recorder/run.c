@@ -76,13 +76,21 @@ static void wait_in_kernel(Run *run, Thread *t) {
     }
 }
 
+// A thread that cannot be asked has gone, or is going: what became of it is waited for.
+static void lost(Run *run, Thread *t) {
+    int ready;
+    take_stop(run, t, process_wait(&run->r.process, t, &ready, 1));
+}
+
 // Sets a thread going for one instruction.
 static void one_step(Run *run, Thread *t) {
     Process *p = &run->r.process;
     Step *s = &run->steps[t - p->threads];
     if (!s->site) { // else its system call goes on
-        if (process_registers(t, &s->before) != 0)
+        if (process_registers(t, &s->before) != 0) {
+            lost(run, t);
             return;
+        }
         if (run->to && s->before.slot[SLOT_RIP] == run->to) {
             run->ended = "it came to where it was to end";
             return;
@@ -96,8 +104,10 @@ static void one_step(Run *run, Thread *t) {
     if (t->signal)
         recorder_signal(&run->r, t);
     int in_kernel = s->site->e.is_syscall && p->thread_count > 1, ready;
-    if (process_resume(t, PTRACE_SINGLESTEP) != 0)
+    if (process_resume(t, PTRACE_SINGLESTEP) != 0) {
+        lost(run, t);
         return;
+    }
     if (in_kernel)
         wait_in_kernel(run, t);
     else
@@ -128,11 +138,13 @@ static void step_all(Run *run) {
         Thread *t = &p->threads[turn % p->thread_count];
         pid_t id = t->id;
         int alone = p->thread_count == 1;
-        for (int k = 0; (alone || k < TURN) && !run->ended && t < p->threads + p->thread_count && t->id == id && !t->runs; k++) {
+        for (int k = 0; (alone || k < TURN) && !run->ended && !recorder_interrupted && t < p->threads + p->thread_count && t->id == id && !t->runs; k++) {
             one_step(run, t);
             ran = 1;
             alone = p->thread_count == 1;
         }
+        if (recorder_interrupted)
+            run->ended = "interrupted";
         int resting = !ran && turn % p->thread_count == p->thread_count - 1;
         if (p->thread_count > 1 || !ran)
             look_at_waiting(run, resting);

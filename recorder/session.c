@@ -6,6 +6,13 @@
 #include <string.h>
 #include <sys/wait.h>
 
+volatile sig_atomic_t recorder_interrupted;
+
+static void interrupt(int signal) {
+    (void)signal;
+    recorder_interrupted = 1;
+}
+
 int complain(int status, const char *words, const char *name) {
     fprintf(stderr, name ? "machhurel record: %s: %s\n" : "machhurel record: %s%s\n", name ? name : "", words);
     return status;
@@ -74,6 +81,9 @@ int recorder_begin(Recorder *r, const Asked *asked, Regs *regs) {
     int status = start(r, asked);
     if (status)
         return status;
+    struct sigaction ends = {.sa_handler = interrupt};
+    sigaction(SIGINT, &ends, NULL); // Ctrl-C ends the recording; the program gets it too
+    sigaction(SIGTERM, &ends, NULL);
     if (process_registers(&r->process.threads[0], regs) != 0)
         return complain(1, "its registers cannot be read", asked->program[0]);
     status = find_variables(r, asked, regs);
@@ -106,6 +116,10 @@ int recorder_end(Recorder *r, const Asked *asked, const char *words) {
     fprintf(stderr, "machhurel record: %llu records (%llu exact, %llu with registers missing, %llu complex), %llu register files, %llu signals: %s\n",
             (unsigned long long)r->out.records, (unsigned long long)r->by_how[EXACT], (unsigned long long)r->by_how[REGISTERS],
             (unsigned long long)r->by_how[COMPLEX], (unsigned long long)r->out.files, (unsigned long long)r->signals, words);
+    signal(SIGINT, SIG_DFL);
+    signal(SIGTERM, SIG_DFL);
+    if (recorder_interrupted && !p->ended)
+        kill(p->id, SIGTERM); // whoever ends the recorder does not want the program either
     process_release(p);
     free_sites(r);
     return bad ? complain(1, "could not be written whole", asked->name) : 0;
