@@ -72,7 +72,10 @@ impl Teller {
             for moment in seen.moments.iter().flatten() {
                 match &mut self.story {
                     None => picture.add(moment),
-                    Some(story) => picture.add(&story.take(moment)),
+                    Some(story) => {
+                        let moment = story.take(moment);
+                        picture.add_judged(&moment, story.ended_torn);
+                    }
                 }
             }
         }

@@ -76,6 +76,8 @@ pub(super) struct Story {
     pub(super) changes: u64,
     /// Accesses that the side file does not have.
     pub(super) unplaced: u64,
+    /// Whether the last moment ended a change of which a read showed what never was there.
+    pub(super) ended_torn: bool,
 }
 
 impl Story {
@@ -98,11 +100,13 @@ impl Story {
             most: 0,
             changes: 0,
             unplaced: 0,
+            ended_torn: false,
         }
     }
 
     /// Takes the next moment, and says where the program stood: the rip that the trace leaves out.
     pub(super) fn take(&mut self, moment: &Moment) -> Moment {
+        self.ended_torn = false;
         let (touch, writes) = match moment {
             Moment::Part(touch) | Moment::Whole(touch) => (*touch, true),
             Moment::Read(touch) => (*touch, false),
@@ -177,9 +181,11 @@ impl Story {
         if self.values.len() < KEPT {
             self.values.push((seen.record, seen.value));
         }
+        let never = self.count(Met::Never);
         for read in open.reads {
             self.settle(read, Some(seen.value));
         }
+        self.ended_torn = self.count(Met::Never) > never;
     }
 
     fn read(&mut self, seen: &Seen) {
