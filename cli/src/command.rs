@@ -5,7 +5,7 @@ use crate::name::harmless;
 use crate::nearest::nearest;
 use crate::output::{complain, reason, Output, Unwritten};
 use crate::status::Status;
-use crate::{difference, fetch, help, show, summary, watch, VERSION};
+use crate::{difference, fetch, help, record, show, summary, watch, VERSION};
 use std::ffi::OsString;
 
 /// A command.
@@ -26,12 +26,13 @@ pub struct Command {
 }
 
 /// Every command. A later one is one more row.
-pub const COMMANDS: [&Command; 5] = [
+pub const COMMANDS: [&Command; 6] = [
     &show::COMMAND,
     &summary::COMMAND,
     &watch::COMMAND,
     &fetch::COMMAND,
     &difference::COMMAND,
+    &record::COMMAND,
 ];
 
 /// Runs the command that these words ask for. No word at all is `show`.
@@ -54,6 +55,14 @@ pub fn run(words: Vec<OsString>) -> Status {
         return say(&format!("machhurel {VERSION}\n"));
     }
     match found(&word) {
+        // its words are another program's; help is told here, where that program may be missing
+        Some(command) if command.name == record::COMMAND.name => {
+            let words: Vec<OsString> = words.collect();
+            match words.first().map_or(true, |word| asks_help(word)) {
+                true => say(&help::of(command)),
+                false => record::hand_over(words),
+            }
+        }
         Some(command) => run_command(command, words.collect()),
         None => wrong(&unknown(&word), "machhurel"),
     }

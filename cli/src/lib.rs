@@ -34,6 +34,7 @@ mod number;
 mod output;
 pub mod pages;
 mod progress;
+mod record;
 mod show;
 mod source;
 mod status;

@@ -78,7 +78,7 @@ fn wrong_usage_is_2() {
 
 #[test]
 fn wrong_usage_of_watch_and_difference_is_2() {
-    let three = "expected a trace, an address and a length, as trace 0x1008 8 (";
+    let three = "expected a trace, an address and a length, as trace 0x1008 8, or a recording and a name, as x position (";
     for words in [
         &["watch"][..],
         &["watch", TORN],

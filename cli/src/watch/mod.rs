@@ -8,6 +8,7 @@ mod moment;
 mod reasons;
 mod records;
 mod rows;
+mod story;
 mod table;
 mod teller;
 mod text;
@@ -28,12 +29,14 @@ use block::{Block, Look};
 use html::Target;
 use jobs::{Jobs, Lost};
 use machhurel::Watch;
-use std::ffi::OsString;
+use std::ffi::{OsStr, OsString};
+use std::os::unix::ffi::OsStrExt;
+use story::{Side, Story};
 use teller::Teller;
 
 pub(crate) const COMMAND: Command = Command {
     name: "watch",
-    operands: "TRACE ADDRESS LENGTH",
+    operands: "TRACE ADDRESS LENGTH | X NAME",
     purpose: "who tore a variable: every store that wrote only part of it",
     details: "\
 Replays a trace against the variable of LENGTH bytes, 1 to 8, at ADDRESS. Each store that wrote only part of it is a line: the
@@ -42,6 +45,9 @@ which bytes of the variable it wrote, byte 0 at ADDRESS. Then it counts the stor
 which record was the first to write part of it and which was the last to write all of it.
 
   12  0x401136  write [0x0000000000001008] 4 bytes: bytes 0 to 3 of 8
+
+Of what `machhurel record` made, X.trace and X.side, a variable is told by its NAME: in how many stores it is written and from which
+lines, how often it was read, how many reads fell between the parts and showed a value that never existed, and by how much.
 
 A refused record and a store at an unknown address may have written the variable, and nobody can tell: then it says that the
 answer is not complete, and names those records. A watch takes 1,000,000 pairs of a record and the register file before it. Where
@@ -77,14 +83,27 @@ struct Asked {
     kind: Kind,
     jobs: u64,
     html: Option<OsString>,
+    /// What the recorder wrote beside the trace.
+    side: Option<Side>,
 }
 
 impl Asked {
-    fn of(arguments: &Arguments) -> Result<Asked, Instead> {
+    fn of(arguments: &Arguments) -> Result<Result<Asked, String>, Instead> {
+        let mut side = None;
         let (trace, address, length) = match arguments.operands.as_slice() {
-            [trace, address, length] => (trace, harmless(address), harmless(length)),
+            [trace, address, length] => (trace.clone(), harmless(address), harmless(length)),
+            [name, variable] if !starts_with_digit(variable) => {
+                let (trace, beside) = story::paths(name);
+                let found = match Side::read(&beside, &harmless(variable)) {
+                    Ok(found) => found,
+                    Err(words) => return Ok(Err(words)),
+                };
+                let numbers = (found.address.to_string(), found.length.to_string());
+                side = Some(found);
+                (trace.into_os_string(), numbers.0, numbers.1)
+            }
             _ => {
-                let words = "expected a trace, an address and a length, as trace 0x1008 8";
+                let words = "expected a trace, an address and a length, as trace 0x1008 8, or a recording and a name, as x position";
                 return Err(Instead::Wrong(words.to_string()));
             }
         };
@@ -100,13 +119,14 @@ impl Asked {
                 .filter(|n| (1..=64).contains(n))
                 .ok_or_else(|| wrong(&JOBS, typed, "1 to 64"))?,
         };
-        Ok(Asked {
-            source: Source::of(trace),
+        Ok(Ok(Asked {
+            source: Source::of(&trace),
             watch: watch.ok_or_else(|| expected("LENGTH", &length, "1 to 8"))?,
             kind: Kind::of(arguments),
             jobs,
             html: arguments.last_typed(&HTML).map(OsString::from),
-        })
+            side,
+        }))
     }
 
     /// Where the page goes, if one is wanted; or why it cannot go there.
@@ -114,6 +134,11 @@ impl Asked {
         let html = self.html.as_ref();
         html.map(|name| Target::of(name, &self.source)).transpose()
     }
+}
+
+/// Whether a word is a number rather than a name.
+fn starts_with_digit(word: &OsStr) -> bool {
+    word.as_bytes().first().map_or(true, u8::is_ascii_digit)
 }
 
 /// Why a replay ended before the trace did.
@@ -136,7 +161,10 @@ impl From<Lost> for Ended {
 }
 
 fn run(arguments: &Arguments, output: &mut Output) -> Result<Status, Instead> {
-    let asked = Asked::of(arguments)?;
+    let mut asked = match Asked::of(arguments)? {
+        Ok(asked) => asked,
+        Err(words) => return Ok(failed(&words)),
+    };
     let target = match asked.target() {
         Ok(target) => target,
         Err(words) => return Ok(failed(&words)),
@@ -150,12 +178,13 @@ fn run(arguments: &Arguments, output: &mut Output) -> Result<Status, Instead> {
         watch: asked.watch,
         kind: asked.kind,
         name: walk.name().to_string(),
-        pictured: target.is_some(),
+        pictured: target.is_some() || asked.side.is_some(),
     };
     output
         .bytes
         .extend_from_slice(rows::header(asked.kind).as_bytes());
-    let mut teller = Teller::new(look.clone());
+    let story = asked.side.take().map(|side| Story::new(side, &look.watch));
+    let mut teller = Teller::new(look.clone(), story);
     let mut jobs = Jobs::new(look, asked.jobs);
     let ended = replay(&mut walk, &mut jobs, &mut teller, output);
     let status = walk.status();

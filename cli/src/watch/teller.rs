@@ -4,7 +4,9 @@ use super::block::{Look, Seen};
 use super::html::{Page, Picture};
 use super::reasons::Reasons;
 use super::rows::Over;
+use super::story::Story;
 use super::{rows, Ended};
+use crate::format::{put, Kind};
 use crate::output::Output;
 use crate::status::Status;
 use machhurel::Watch;
@@ -18,10 +20,12 @@ pub(super) struct Teller {
     before: Option<Answer>,
     reasons: Reasons,
     picture: Option<Picture>,
+    /// What is known besides of a variable that was named.
+    story: Option<Story>,
 }
 
 impl Teller {
-    pub(super) fn new(look: Look) -> Teller {
+    pub(super) fn new(look: Look, story: Option<Story>) -> Teller {
         Teller {
             watch: look.watch,
             picture: Some(Picture::new(&look.watch)).filter(|_| look.pictured),
@@ -29,7 +33,13 @@ impl Teller {
             from: 0,
             before: None,
             reasons: Reasons::new(),
+            story,
         }
+    }
+
+    /// Whether the part writes are told by place, not one by one.
+    fn is_told(&self) -> bool {
+        self.story.is_some() && self.look.kind == Kind::Text
     }
 
     /// Takes what was seen in the next block of the trace.
@@ -40,21 +50,33 @@ impl Teller {
         match self.watch.then(&seen.watch) {
             Some(watch) => self.watch = watch,
             None => {
-                self.put_watch(output);
+                if !self.is_told() {
+                    self.put_watch(output);
+                }
                 self.before = Some(self.answer());
                 self.watch = seen.watch;
                 self.from = seen.first;
                 let Look { kind, name, .. } = &self.look;
-                rows::put_further(&mut output.bytes, *kind, name, seen.first);
+                if !self.is_told() {
+                    rows::put_further(&mut output.bytes, *kind, name, seen.first);
+                }
             }
         }
-        output.bytes.extend_from_slice(&seen.lines);
+        if !self.is_told() {
+            output.bytes.extend_from_slice(&seen.lines);
+        }
         for (record, why) in seen.unsure {
             self.reasons.add(record, why);
         }
         if let Some(picture) = &mut self.picture {
             for moment in seen.moments.iter().flatten() {
-                picture.add(moment);
+                match &mut self.story {
+                    None => picture.add(moment),
+                    Some(story) => {
+                        let moment = story.take(moment);
+                        picture.add_judged(&moment, story.ended_torn);
+                    }
+                }
             }
         }
         Ok(output.flush_much()?)
@@ -72,6 +94,7 @@ impl Teller {
             reasons: &self.reasons,
             damages,
             picture,
+            story: self.story.as_ref(),
         };
         Some(page.bytes())
     }
@@ -95,9 +118,17 @@ impl Teller {
     }
 
     /// Says what came of it all.
-    pub(super) fn end(&self, output: &mut Output, damages: u64) -> Status {
+    pub(super) fn end(&mut self, output: &mut Output, damages: u64) -> Status {
+        if let Some(story) = &mut self.story {
+            story.end();
+        }
+        let told = self.story.as_ref().filter(|_| self.is_told());
+        if let Some(story) = told {
+            story.put(&mut output.bytes);
+        }
         let over = match self.before {
             None => Over::Trace,
+            Some(_) if told.is_some() => Over::All,
             Some(_) => {
                 self.put_watch(output);
                 Over::All
@@ -110,6 +141,9 @@ impl Teller {
         } = &self.look;
         rows::put_across(&mut output.bytes, *kind, name, watch, &answer);
         rows::put_reasons(&mut output.bytes, *kind, name, &self.reasons, damages);
+        for words in told.map_or(Vec::new(), Story::complex) {
+            put!(&mut output.bytes, "  {words}\n");
+        }
         self.status()
     }
 

@@ -20,6 +20,8 @@ pub(super) struct Change {
     stored: u8,
     /// Whether a read met bytes stored since, and bytes of before.
     pub(super) met: bool,
+    /// Whether it is known that such a read showed what never was there.
+    never: bool,
 }
 
 pub(super) struct Changes {
@@ -40,9 +42,16 @@ pub(super) struct Kept {
 impl Kept {
     fn add(&mut self, change: Change, most: usize) {
         self.count = self.count.saturating_add(1);
-        if self.first.len() < most {
-            self.first.push(change);
+        // what never was there goes before what happened to fit
+        let least = self.first.iter().rposition(|kept| !kept.never);
+        match (self.first.len() < most, least) {
+            (true, _) => {}
+            (false, Some(at)) if change.never => {
+                self.first.remove(at);
+            }
+            (false, _) => return,
         }
+        self.first.push(change);
     }
 }
 
@@ -56,7 +65,8 @@ impl Changes {
         }
     }
 
-    pub(super) fn add(&mut self, moment: &Moment) {
+    /// Takes the next moment; `never` where it ends a change of which a read showed what never was there.
+    pub(super) fn add(&mut self, moment: &Moment, never: bool) {
         if let (Moment::Part(_), None) = (moment, &self.open) {
             self.open = Some(Change::default());
         }
@@ -70,6 +80,7 @@ impl Changes {
             Moment::ReadSomewhere | Moment::Hidden(..) => {}
         }
         change.ended = change.stored == self.full;
+        change.never = change.ended && never;
         change.keep(moment);
         match change.ended {
             true => self.close(change),

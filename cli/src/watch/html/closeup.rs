@@ -1,5 +1,6 @@
 //! A change of the variable byte by byte: as a picture, and step by step in words.
 use super::super::moment::{Moment, Touch};
+use super::super::story::{Met, Story};
 use super::super::text::cause;
 use super::changes::Change;
 use super::words::{bytes, escaped, grouped, many};
@@ -68,7 +69,13 @@ fn has(touched: u8, byte: usize) -> bool {
 }
 
 /// A close-up: its heading, its picture and its words.
-pub(super) fn put(out: &mut Vec<u8>, change: &Change, number: usize, length: u64) {
+pub(super) fn put(
+    out: &mut Vec<u8>,
+    change: &Change,
+    number: usize,
+    length: u64,
+    story: Option<&Story>,
+) {
     let steps = steps(change);
     let owners = owners(&steps, length);
     let heading = heading(change, &steps);
@@ -92,7 +99,8 @@ pub(super) fn put(out: &mut Vec<u8>, change: &Change, number: usize, length: u64
     put_marks(out, &steps, length);
     put!(out, "</svg>\n<ol>\n");
     for (k, step) in steps.iter().enumerate() {
-        put_step(out, step, owners.get(k).map_or(&[], Vec::as_slice));
+        let owners = owners.get(k).map_or(&[][..], Vec::as_slice);
+        put_step(out, step, owners, story);
     }
     put!(out, "</ol></div>\n");
 }
@@ -205,12 +213,12 @@ fn put_marks(out: &mut Vec<u8>, steps: &[Step<'_>], length: u64) {
 }
 
 /// A step in words; `owners` is who stored each byte before it.
-fn put_step(out: &mut Vec<u8>, step: &Step<'_>, owners: &[Owner]) {
+fn put_step(out: &mut Vec<u8>, step: &Step<'_>, owners: &[Owner], story: Option<&Story>) {
     put!(out, "<li>");
     match step {
         Step::Gap(n) => put!(out, "{}", left_out(*n)),
         Step::Moment(Moment::Part(touch) | Moment::Whole(touch)) => {
-            put!(out, "{} stores {}", place(touch), bytes(touch.bytes));
+            put!(out, "{} stores {}", place(touch, story), bytes(touch.bytes));
         }
         Step::Moment(Moment::Read(touch)) => {
             let found = found(touch.bytes, owners);
@@ -223,8 +231,9 @@ fn put_step(out: &mut Vec<u8>, step: &Step<'_>, owners: &[Owner]) {
             let (words, bytes) = (words.join(", "), bytes(touch.bytes));
             put!(
                 out,
-                "{} reads {bytes}: <b class=\"{class}\">{words}</b>",
-                place(touch)
+                "{} reads {bytes}: <b class=\"{class}\">{words}</b>{}",
+                place(touch, story),
+                shown(touch, story)
             );
         }
         Step::Moment(Moment::Hidden(record, why)) => put!(
@@ -237,6 +246,23 @@ fn put_step(out: &mut Vec<u8>, step: &Step<'_>, owners: &[Owner]) {
     put!(out, "</li>\n");
 }
 
+/// What a read showed, where that is known.
+fn shown(touch: &Touch, story: Option<&Story>) -> String {
+    match story.and_then(|story| story.read_in(touch.record)) {
+        None => String::new(),
+        Some(read) => format!(
+            "; it showed <code>{:#x}</code>{}, before it was <code>{:#x}</code>, after it <code>{:#x}</code>",
+            read.value,
+            match read.met {
+                Met::Never => ", which never existed",
+                Met::Whole | Met::Luck | Met::Unsettled => "",
+            },
+            read.before,
+            read.after
+        ),
+    }
+}
+
 fn left_out(n: u64) -> String {
     match n {
         1 => "one more access, which is left out here".to_string(),
@@ -244,7 +270,12 @@ fn left_out(n: u64) -> String {
     }
 }
 
-fn place(touch: &Touch) -> String {
+fn place(touch: &Touch, story: Option<&Story>) -> String {
+    let spot = touch.rip.and_then(|rip| story?.spot_before(rip));
+    if let Some(spot) = spot {
+        let name: String = spot.name().chars().take(60).collect();
+        return format!("record {}, {},", touch.record, escaped(&name));
+    }
     match touch.rip {
         None => format!("record {}", touch.record),
         Some(rip) => {

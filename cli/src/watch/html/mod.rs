@@ -9,11 +9,13 @@ mod sites;
 mod tables;
 mod target;
 mod timeline;
+mod values;
 mod words;
 
 use super::across::Across;
 use super::answer::Answer;
 use super::reasons::Reasons;
+use super::story::Story;
 use crate::format::put;
 use crate::VERSION;
 use machhurel::Watch;
@@ -22,6 +24,10 @@ use tables::Whose;
 pub(super) use target::Target;
 use words::{escaped, many};
 
+/// So many notes of the recorder are shown.
+const NOTES: usize = 16;
+/// No page is longer.
+const MOST: usize = 100_000;
 /// So much of a trace's name is shown.
 const NAME: usize = 200;
 
@@ -34,14 +40,34 @@ pub(super) struct Page<'a> {
     pub(super) reasons: &'a Reasons,
     pub(super) damages: u64,
     pub(super) picture: &'a Picture,
+    /// What is known besides of a variable that was named.
+    pub(super) story: Option<&'a Story>,
 }
 
 impl Page<'_> {
-    /// The page's bytes.
+    /// The page's bytes. What is known by name is shortened where the page would be too long.
     pub(super) fn bytes(&self) -> Vec<u8> {
+        let nameless = Page {
+            story: None,
+            ..*self
+        };
+        let mut page = self.with(true);
+        if page.len() >= MOST {
+            page = self.with(false);
+        }
+        if page.len() >= MOST {
+            page = nameless.with(false);
+        }
+        page
+    }
+
+    fn with(&self, values: bool) -> Vec<u8> {
         let mut out = Vec::new();
         self.put_head(&mut out);
         self.put_writers(&mut out);
+        if let Some(story) = self.story.filter(|_| values) {
+            values::put(&mut out, story);
+        }
         if self.answer.pairs > 0 {
             self.put_timeline(&mut out);
         }
@@ -60,7 +86,10 @@ impl Page<'_> {
 
     fn put_head(&self, out: &mut Vec<u8>) {
         let (watch, answer) = (self.watch, self.answer);
-        let variable = sentence::variable(watch);
+        let variable = match self.story {
+            None => sentence::variable(watch),
+            Some(story) => format!("variable {}", shortened(&story.side.name)),
+        };
         let name = shortened(self.name);
         put!(
             out,
@@ -80,10 +109,17 @@ impl Page<'_> {
         };
         let first = sentence::first(watch, answer, self.picture, self.damages);
         let reads = sentence::reads(self.picture);
-        put!(
-            out,
-            "<p class=\"verdict {class}\"><b>{first}</b> {reads}</p>\n"
-        );
+        match self.story {
+            None => put!(
+                out,
+                "<p class=\"verdict {class}\"><b>{first}</b> {reads}</p>\n"
+            ),
+            Some(story) => put!(
+                out,
+                "<p class=\"verdict {class}\"><b>{}</b></p>\n<p>{first} {reads}</p>\n",
+                escaped(&story.sentence())
+            ),
+        }
         if let Some(across) = Across::of(watch, answer) {
             put!(out, "<p class=\"warn\"><b>Warning:</b> {across}.</p>\n");
         }
@@ -97,7 +133,13 @@ impl Page<'_> {
             return;
         }
         put!(out, "<div class=\"wide\">");
-        tables::put_sites(out, writers, Whose::Writers, self.watch.length());
+        tables::put_sites(
+            out,
+            writers,
+            Whose::Writers,
+            self.watch.length(),
+            self.story,
+        );
         put!(out, "</div>\n");
         let ends = [
             ("The first to write part of it", self.answer.first_part),
@@ -155,7 +197,7 @@ impl Page<'_> {
         );
         let kept = met.first.iter().chain(&others.first);
         for (k, change) in kept.enumerate() {
-            closeup::put(out, change, k, self.watch.length());
+            closeup::put(out, change, k, self.watch.length(), self.story);
         }
     }
 
@@ -167,7 +209,13 @@ impl Page<'_> {
             return;
         }
         put!(out, "<div class=\"wide\">");
-        tables::put_sites(out, readers, Whose::Readers, self.watch.length());
+        tables::put_sites(
+            out,
+            readers,
+            Whose::Readers,
+            self.watch.length(),
+            self.story,
+        );
         put!(out, "</div>\n");
         if readers.all.iter().any(|site| !site.whole) {
             put!(
@@ -179,6 +227,11 @@ impl Page<'_> {
 
     fn put_hidden(&self, out: &mut Vec<u8>) {
         put!(out, "<h2>What could be hidden</h2>\n");
+        if let Some(story) = self.story {
+            for words in story.beside().iter().chain(&story.complex()).take(NOTES) {
+                put!(out, "<p>{}.</p>\n", shortened(words));
+            }
+        }
         if self.answer.is_complete() && self.damages == 0 {
             put!(
                 out,
@@ -269,6 +322,7 @@ mod tests {
             reasons: &reasons,
             damages: u64::MAX,
             picture: &picture,
+            story: None,
         };
         let bytes = page.bytes();
         let text = String::from_utf8(bytes).unwrap();

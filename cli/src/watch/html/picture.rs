@@ -35,7 +35,12 @@ impl Picture {
     }
 
     pub(in super::super) fn add(&mut self, moment: &Moment) {
-        self.changes.add(moment);
+        self.add_judged(moment, false);
+    }
+
+    /// As `add`; `never` where the moment ends a change of which a read showed what never was there.
+    pub(in super::super) fn add_judged(&mut self, moment: &Moment, never: bool) {
+        self.changes.add(moment, never);
         match moment {
             Moment::Part(touch) => {
                 if let Some(count) = self.parts.get_mut(usize::from(touch.bytes)) {

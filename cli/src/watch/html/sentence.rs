@@ -100,8 +100,8 @@ pub(super) fn changes(met: &Kept, others: &Kept) -> String {
     if shown(met).saturating_add(shown(others)) < all {
         words.push_str(&match (shown(met), shown(others)) {
             (0, n) => format!(" The first {n} are shown."),
-            (n, 0) => format!(" The first {n} of these are shown."),
-            (n, m) => format!(" The first {n} of these and {m} of the others are shown."),
+            (n, 0) => format!(" {n} of these are shown."),
+            (n, m) => format!(" {n} of these and {m} of the others are shown."),
         });
     }
     words

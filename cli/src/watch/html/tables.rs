@@ -1,6 +1,7 @@
 //! The tables of a page.
 use super::super::reasons::Reasons;
 use super::super::records::{self, Records};
+use super::super::story::{Spot, Story};
 use super::super::text::cause;
 use super::pauses::{Pause, Pauses};
 use super::sites::{Site, Sites};
@@ -59,7 +60,13 @@ pub(super) enum Whose {
     Readers,
 }
 
-pub(super) fn put_sites(out: &mut Vec<u8>, sites: &Sites, whose: Whose, length: u64) {
+pub(super) fn put_sites(
+    out: &mut Vec<u8>,
+    sites: &Sites,
+    whose: Whose,
+    length: u64,
+    story: Option<&Story>,
+) {
     let (what, caption) = match whose {
         Whose::Writers => (
             "Stores#",
@@ -71,7 +78,10 @@ pub(super) fn put_sites(out: &mut Vec<u8>, sites: &Sites, whose: Whose, length: 
         ),
     };
     let columns = [
-        "Next instruction at",
+        match story {
+            None => "Next instruction at",
+            Some(_) => "Source line",
+        },
         "Opcode",
         "Memory",
         "Bytes of the variable",
@@ -81,7 +91,7 @@ pub(super) fn put_sites(out: &mut Vec<u8>, sites: &Sites, whose: Whose, length: 
     ];
     begin(out, caption, &columns);
     for site in &sites.all {
-        put_site(out, site, whose, length);
+        put_site(out, site, whose, length, story);
     }
     if sites.others > 0 {
         let others = grouped(sites.others);
@@ -93,11 +103,24 @@ pub(super) fn put_sites(out: &mut Vec<u8>, sites: &Sites, whose: Whose, length: 
     end(out);
 }
 
-fn put_site(out: &mut Vec<u8>, site: &Site, whose: Whose, length: u64) {
+/// Where an instruction stands in the program, and what it is.
+fn spot_words(spot: &Spot) -> String {
+    let short = |text: &str| escaped(&text.chars().take(60).collect::<String>());
+    format!(
+        "<b>{}</b> {}<br><code>{}</code>",
+        short(&spot.name()),
+        short(&spot.function),
+        short(&spot.text)
+    )
+}
+
+fn put_site(out: &mut Vec<u8>, site: &Site, whose: Whose, length: u64, story: Option<&Story>) {
     let first = &site.first;
-    let rip = match first.rip {
-        Some(rip) => format!("<code>{rip:#x}</code>"),
-        None => "not known".to_string(),
+    let spot = first.rip.and_then(|rip| story?.spot_before(rip));
+    let rip = match (spot, first.rip) {
+        (Some(spot), _) => spot_words(spot),
+        (None, Some(rip)) => format!("<code>{rip:#x}</code>"),
+        (None, None) => "not known".to_string(),
     };
     let opcode = match opcode_name(first.opcode) {
         Some(name) => format!("{}, {name}", first.opcode),
