@@ -1,14 +1,18 @@
 -- What T-10 says, row by row: records that name a segment, files that hold the bases of fs and gs, and bank 13 in a log.
 use Prim.Native.Nat.{ℕ, _-_, _^_}
 use mathlib.Core.List.{List, [], _∷_}
-use Rattle.registers.specs.Files.{fileAnswer}
+use lib.ListN.{getD}
+use Rattle.registers.specs.Files.{fileOf, fileAnswer}
 use Rattle.registers.specs.declared.FileAnswer.{FileAnswer}
+use Rattle.definition.specs.Logs.{bytesOf}
+use Rattle.definition.specs.Visits.{logOf}
+use Rattle.definition.specs.declared.Event.{Event}
 use Rattle.definition.specs.declared.Answer.the-variants.{Done, Refused, Complex}
-use Rattle.definition.specs.declared.Event.the-variants.{RegisterRead, RegisterWrite}
+use Rattle.definition.specs.declared.Event.the-variants.{RegisterRead, RegisterWrite, UnknownRead}
 use Rattle.definition.specs.declared.Reading.{Reading}
 use Rattle.definition.specs.declared.Reading.the-variants.{Found, Bad}
 use Rattle.registers.specs.Banks as banks
-use Rattle.promises.specs.Rows.{Patch, put, long, segment, opcode, specs, regs, disp, imm, scale, prefixes, mask, behavior, access, list, fileKnowing, based, knows, Q, D, K, BASES, RegRRR, Reg4, Deref, Deref-rdi, Deref-rsi, Deref-edi, Deref-esi, Disp, MemBaseIndexScale-mask, DispU64, ImmI8, log, reads, writes, loads, stores, loads-unknown, stores-unknown, Row, row}
+use Rattle.promises.specs.Rows.{Patch, put, long, recordWith, segment, opcode, specs, regs, disp, imm, scale, prefixes, mask, behavior, access, list, fileKnowing, based, knows, Q, D, K, BASES, RegRRR, Reg4, Deref, Deref-rdi, Deref-rsi, Deref-edi, Deref-esi, Disp, MemBaseIndexScale-mask, DispU64, ImmI8, log, reads, writes, loads, stores, loads-unknown, stores-unknown, Row, row}
 
 -- rbx is 0x1000, rsi 0x2000 and rdi 0x3000; fs is 0x70000 and gs 0x80000
 abbrev plain-file : List Patch
@@ -92,6 +96,10 @@ refused-kinds =
     ∷ row (behavior 0x20 ∷ segment 1 ∷ []) both (Complex 40) []
     ∷ []
 
+-- the log of an address whose sum with a base wraps
+abbrev wrapped : List Event
+wrapped = logOf (recordWith (specs (Deref ∷ []) ∷ regs 1 Q 3 ∷ segment 1 ∷ [])) (fileOf (fileKnowing (knows 3 0x1000 ∷ based ∷ knows 17 (2 ^ 64 - 0x800) ∷ [])))
+
 -- An event may name bank 13, numbers 0 and 1, read or written
 unfoldable pub base-readings : List ((List ℕ × ℕ) × Reading)
 base-readings =
@@ -102,6 +110,8 @@ base-readings =
     ∷ (((1 ∷ 13 ∷ 2 ∷ []), 0), Bad 2)
     ∷ (((2 ∷ 13 ∷ 2 ∷ []), 0), Bad 2)
     ∷ (((1 ∷ 14 ∷ 0 ∷ []), 0), Bad 2)
+    -- what a log's bytes stand for, where the sum with a base wraps: the event itself
+    ∷ ((bytesOf wrapped, 6), Found (getD wrapped 2 (UnknownRead 0)) 16)
     ∷ []
 
 -- A file that holds bases, and one that does not: two values more, and unknown
