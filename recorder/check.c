@@ -89,9 +89,6 @@ typedef struct {
     int guarded;  // which of the accesses said is watched; -1 for none
 } Judged;
 
-// QEMU says of unaligned data that bytes around it were touched too, of a store even far before it: there it is no witness.
-static int is_aligned(const Access *a) { return (a->size & (a->size - 1)) == 0 && a->address % a->size == 0; }
-
 static void prepare(Check *c, const Asked *asked, Judged *j) {
     uint8_t size, spoilt[RECORD_BYTES];
     const uint8_t *record = encoded_record(&j->site->e, &j->before, &size);
@@ -107,9 +104,8 @@ static void prepare(Check *c, const Asked *asked, Judged *j) {
         else
             j->said = j->logged;
     }
-    j->guarded = c->has_guard && !j->refused && j->said.count ? (int)(c->r.steps / SPOILINGS % (uint64_t)j->said.count) : -1;
-    if (j->guarded >= 0 && asked->emulated && (!j->site->e.falls || !is_aligned(&j->said.all[j->guarded])))
-        j->guarded = -1;
+    int can_be = c->has_guard && (!asked->emulated || j->site->e.falls);
+    j->guarded = can_be && !j->refused && j->said.count ? (int)(c->r.steps / SPOILINGS % (uint64_t)j->said.count) : -1;
 }
 
 static void judge(Check *c, const Thread *t, Judged *j) {

@@ -18,13 +18,18 @@ void guard_clear(Guard *g, const Thread *t) {
     memset(g, 0, sizeof *g);
 }
 
-// An emulator that tells one watchpoint alone gets those of one phase: the first byte, the last byte, or those around.
-static int is_wanted(int k, int phase) { return phase < 0 || (phase == 2 ? k >= 2 : k == phase); }
+// An emulator that tells one watchpoint alone gets those of one phase: the first byte, the last byte, or those around. QEMU says of
+// unaligned data that bytes around it were touched too, of a store even 17 bytes before it: there nothing around is watched, and that
+// its first and last byte were touched says little.
+static int is_wanted(int k, const Access *a, int phase) {
+    int is_aligned = (a->size & (a->size - 1)) == 0 && a->address % a->size == 0;
+    return phase < 0 || k == (phase == 2 ? -1 : phase) || (k >= 2 && phase == 2 && is_aligned);
+}
 
 void guard_set(Guard *g, const Thread *t, const Access *a, int phase) {
     const uint64_t at[4] = {a->address, a->address + a->size - 1, a->address - 1, a->address + a->size};
     for (int k = 0; k < 4; k++) {
-        g->is_set[k] = is_wanted(k, phase) && ((g->at[k] == at[k] && g->is_set[k]) || process_set_debug(t, k, at[k]) == 0);
+        g->is_set[k] = is_wanted(k, a, phase) && ((g->at[k] == at[k] && g->is_set[k]) || process_set_debug(t, k, at[k]) == 0);
         g->at[k] = at[k];
     }
     uint64_t bits = control(g, a->writes ? ON_WRITE : ON_ACCESS);
