@@ -3,7 +3,7 @@ use Prim.Native.Nat.{ℕ, _≤_, _<_, zero-le}
 use native.Mathlib.Omega.{arith}
 use mathlib.Core.Path.{_≡_, refl, sym, ap}
 use mathlib.Core.Logic.{inl, inr}
-use mathlib.Core.Bool.{Bool, true, false}
+use mathlib.Core.Bool.{Bool, true, false, cond}
 use lib.ListN.{List·getD-eq-default}
 use lib.Dec.{ltb}
 use borrow.Author.Tests.{ltb-true, ltb-false}
@@ -16,6 +16,7 @@ use Rattle.definition.specs.declared.Base.{Base}
 use Rattle.definition.specs.declared.Base.the-variants.{NoBase, Based}
 use Rattle.definition.specs.declared.Shape.{Shape}
 use Rattle.definition.specs.declared.Shape.the-variants.{Nothing}
+use Rattle.operand.specs.Bases.{takesBase}
 use Rattle.fetch.specs.Parts.{shapeIndex, shapeSegment}
 
 -- past the last spec there is nothing
@@ -77,18 +78,15 @@ module _ (s : ℕ) where
       by false e = past-last shapeIndex s (ltb-false s 36 e)
 
 -- the segment, but for the destinations of string instructions
-module _ (x : Record) (s : ℕ) where
-  abbrev In : ℕ → ℕ → Type 0
-  In n k = n ≡ shapeSegment x (shapeOf k)
+-- in the record's segment, where a base is added
+module _ (x : Record) where
+  abbrev In : ℕ → Type 0
+  In k = shapeSegment x (shapeOf k) ≡ cond (takesBase k) (x .segment) 0
 
-  pub no-memory : s < 18 → In 0 s
-  unfolding shapeOf shapeSegment
-  no-memory h = span (In 0) 0 18 (refl, (refl, (refl, (refl, (refl, (refl, (refl, (refl, (refl, (refl, (refl, (refl, (refl, (refl, (refl, (refl, (refl, (refl, tt)))))))))))))))))) s zero-le h
-
-  pub in-segment : (s ≡ 20 → ⊥) → (s ≡ 22 → ⊥) → 18 ≤ s → s ≤ 35 → In (x .segment) s
-  unfolding shapeOf shapeSegment segmentOf
-  in-segment a b l h = span-but (In (x .segment)) s 18 18 (inr refl, (inr refl, (inl a, (inr refl, (inl b, (inr refl, (inr refl, (inr refl, (inr refl, (inr refl, (inr refl, (inr refl, (inr refl, (inr refl, (inr refl, (inr refl, (inr refl, (inr refl, tt)))))))))))))))))) l (omega (arith, h))
-
-  pub past-memory : 35 < s → In 0 s
-  unfolding shapeSegment
-  past-memory l = past-last (shapeSegment x) s (omega (arith, l))
+  pub segment-is : (s : ℕ) → In s
+  unfolding shapeOf shapeSegment segmentOf takesBase
+  segment-is s = by (ltb s 36) refl
+    where
+      by : (t : Bool) → ltb s 36 ≡ t → In s
+      by true e = span In 0 36 (refl, (refl, (refl, (refl, (refl, (refl, (refl, (refl, (refl, (refl, (refl, (refl, (refl, (refl, (refl, (refl, (refl, (refl, (refl, (refl, (refl, (refl, (refl, (refl, (refl, (refl, (refl, (refl, (refl, (refl, (refl, (refl, (refl, (refl, (refl, (refl, tt)))))))))))))))))))))))))))))))))))) s zero-le (ltb-true s 36 e)
+      by false e = rw (← past-last (shapeSegment x) s (ltb-false s 36 e), e)

@@ -2,6 +2,7 @@
 use crate::slots::with_segment;
 use crate::slots::with_term;
 use definition::Term;
+use operand::takes_base;
 use record::Record;
 use registers::names::EDI;
 use registers::names::ESI;
@@ -19,15 +20,6 @@ ghost use Rattle.definition.specs.Steps.{shapeBase};
 ghost use Rattle.fetch.specs.Parts.{shapeIndex, shapeSegment, shapeNeeds, loadsAt, operandNeeds};
 
 const LEA: u16 = 28;
-
-// The specs of memory, and of these the two that are the destination of a string instruction.
-const FIRST_MEMORY: u8 = 18;
-
-const LAST_MEMORY: u8 = 35;
-
-const DEREF_RDI: u8 = 20;
-
-const DEREF_EDI: u8 = 22;
 
 // The base of a memory spec: `regs[1]`, or the register that the spec names.
 fn base_of(x: Record, spec: u8) -> Term
@@ -58,16 +50,7 @@ fn index_of(x: Record, spec: u8) -> Term
 fn segment_of(x: Record, spec: u8) -> u8
     ensures { λ r. ⌜ r ≡ shapeSegment x (shapeOf spec) ⌝ }
 {
-    if spec < FIRST_MEMORY {
-        return 0;
-    }
-    if LAST_MEMORY < spec {
-        return 0;
-    }
-    if spec == DEREF_RDI {
-        return 0;
-    }
-    if spec == DEREF_EDI { 0 } else { x.segment }
+    if takes_base(spec) { x.segment } else { 0 }
 }
 
 fn with_access(set: u32, x: Record, spec: u8) -> u32

@@ -1,4 +1,3 @@
 pub mod Opcodes
-pub mod Shapes
 pub mod Answers
 pub mod Narrow

@@ -14,8 +14,6 @@ ghost use Rattle.definition.specs.Behaviors.{digestOf, fixedUp, complex, mayPro
 mod memory;
 mod rules;
 
-pub use memory::is_memory;
-
 // The digest after fix-ups, which happen only where nontrivial is set.
 pub fn digest_of(x: Record) -> BehaviorDigest
     ensures { λ r. ⌜ r ≡ digestOf x ⌝ }

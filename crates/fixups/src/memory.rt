@@ -1,4 +1,5 @@
 // Whether an instruction touches memory: what its exceptions ask.
+use operand::is_memory;
 use record::Record;
 ghost use mathlib.Core.Path.{_≡_};
 ghost use mathlib.Core.Bool.{_&&_};
@@ -7,12 +8,6 @@ ghost use Rattle.laws.specs.Tests.{any};
 ghost use Rattle.record.specs.Records.{specAt};
 ghost use Rattle.definition.specs.Tables.{shapeOf};
 ghost use Rattle.definition.specs.Behaviors.{isMemory, operandsOf, mayFault};
-
-pub fn is_memory(spec: u8) -> bool
-    ensures { λ r. ⌜ r ≡ isMemory (shapeOf spec) ⌝ }
-{
-    18 <= spec && spec <= 35
-}
 
 // Operand i is below the count, and memory.
 fn memory_at(x: Record, i: u8) -> bool

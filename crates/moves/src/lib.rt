@@ -6,7 +6,6 @@ pub use memory::is_stopped;
 pub use memory::put_access;
 pub use memory::put_deref;
 pub use memory::put_indexed;
-pub use registers_of::fourth_of;
 pub use registers_of::put_masked;
 pub use registers_of::put_plain;
 pub use registers_of::put_segment;

@@ -1,45 +1,19 @@
 // Registers that an explicit operand reads or writes.
 use event::put_register;
 use implicit::Way;
+use operand::apply_x86_zext;
+use operand::segment_register;
 use registers::RegSpec;
-use registers::names::FS;
-use registers::names::GS;
 ghost use mathlib.Core.Path.{_≡_};
 ghost use Prim.Native.Nat.{_≤_};
 ghost use lib.ListN.{length};
-ghost use Rattle.record.specs.Records.{everydayBytes, recordOf};
 ghost use Rattle.laws.specs.Lending.{size, Logged};
 ghost use Rattle.implicit.specs.declared.Way.the-variants.{Read, Write};
-ghost use Rattle.definition.specs.Steps.{widened, fourthOf, maskRegisters};
-ghost use Rattle.definition.specs.Addresses.{segmentRegister, segmentRegisters};
+ghost use Rattle.definition.specs.Steps.{maskRegisters};
+ghost use Rattle.definition.specs.Addresses.{segmentRegisters};
 ghost use Rattle.definition.specs.Logs.{eventBytes};
 ghost use Rattle.event.specs.Moves.{moved};
 ghost use Rattle.moves.specs.Touches.{plainEvents, maskedEvents};
-
-// Reg4: the bank of `regs[3]` and the low byte of `imm`.
-pub fn fourth_of(b: &[u8]) -> RegSpec
-    requires { ⌜ everydayBytes ≤ length (now b) ⌝ }
-    ensures { λ r. ⌜ r ≡ fourthOf (recordOf (now (b .entry))) ⌝ }
-{
-    RegSpec {
-        bank: record::reg_in(b, 3).bank,
-        number: record::low_imm_in(b),
-    }
-}
-
-// A write to bank D is logged as one to bank Q: it zero-extends.
-fn apply_x86_zext(y: RegSpec) -> RegSpec
-    ensures { λ r. ⌜ r ≡ widened y ⌝ }
-{
-    if y.bank == 1 {
-        RegSpec {
-            bank: 0,
-            number: y.number,
-        }
-    } else {
-        y
-    }
-}
 
 // Mask 0 is never logged.
 pub fn put_mask(log: &mut [u8], mask: u8) -> usize
@@ -57,13 +31,6 @@ pub fn put_mask(log: &mut [u8], mask: u8) -> usize
             number: mask,
         },
     )
-}
-
-// The base of fs for segment 1, else that of gs.
-fn segment_register(segment: u8) -> RegSpec
-    ensures { λ r. ⌜ r ≡ segmentRegister segment ⌝ }
-{
-    if segment == 1 { FS } else { GS }
 }
 
 // The base of no segment is never logged.

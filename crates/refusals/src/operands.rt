@@ -38,7 +38,7 @@ fn is_unnamed_at(x: Record, i: u8) -> bool
 fn is_memory_at(x: Record, i: u8) -> bool
     ensures { λ r. ⌜ r ≡ not (eqb (accessAt (x .digest) i) 0) && isMemory (shapeOf (specAt x i)) ⌝ }
 {
-    is_accessed(x, i) && fixups::is_memory(x.spec(i))
+    is_accessed(x, i) && operand::is_memory(x.spec(i))
 }
 
 pub fn accesses_unnamed(x: Record) -> bool

@@ -1,6 +1,7 @@
 // Refusals 5 and 6, of a record after fix-ups.
 use crate::operands::accesses_memory;
 use crate::operands::accesses_unnamed;
+use operand::is_string;
 use record::Record;
 ghost use mathlib.Core.Path.{_≡_};
 ghost use mathlib.Core.Bool.{not, _&&_, _||_};
@@ -9,13 +10,6 @@ ghost use lib.Dec.{eqb};
 ghost use Rattle.laws.specs.Tests.{isIn};
 ghost use Rattle.definition.specs.Tables.{stringSpecs};
 ghost use Rattle.definition.specs.Refusals.{nameless, sizeless};
-
-// A spec whose register a string list may log.
-fn is_string(spec: u8) -> bool
-    ensures { λ r. ⌜ r ≡ isIn spec stringSpecs ⌝ }
-{
-    (spec == 18) | (spec == 20) | (spec == 21) | (spec == 22) | (spec == 23)
-}
 
 // List 24 names slot 0, and list 25 slots 0 and 1.
 fn lacks_slot(list: u16, first: u8, second: u8) -> bool

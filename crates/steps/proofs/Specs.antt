@@ -38,7 +38,8 @@ use Rattle.address.specs.Places.{sumOf, sourcesOf}
 use Rattle.address.proofs.Sums.{at-register, at-disp, at-index, at-index-disp, at-both, at-both-disp, at-number, low-rdi, low-rsi, unmoved}
 use Rattle.event.specs.Moves.{moved}
 use Rattle.moves.specs.Touches.{stops, plainEvents, maskedEvents, accessEvents, derefEvents, indexedEvents}
-use Rattle.steps.specs.Parts.{parts, partEvents, takesBase, partSegment, addedBy, basedEvents}
+use Rattle.steps.specs.Parts.{parts, partEvents, partSegment, addedBy, basedEvents}
+use Rattle.operand.specs.Bases.{takesBase}
 use Rattle.moves.proofs.Registers.{events-moved}
 
 unfoldable pub partSteps : Way → Record → Shape → List Step

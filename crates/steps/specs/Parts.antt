@@ -20,6 +20,7 @@ use Rattle.definition.specs.declared.Event.{Event}
 use Rattle.address.specs.Places.{plusOf, sumOf, lowOf}
 use Rattle.address.specs.declared.places.Sources.{Sources}
 use Rattle.event.specs.Moves.{moved}
+use Rattle.operand.specs.Bases.{takesBase}
 use Rattle.moves.specs.Touches.{stops, plainEvents, maskedEvents, accessEvents, derefEvents, indexedEvents}
 
 -- a record after fix-ups, whose other fields stand in the lent bytes
@@ -62,10 +63,6 @@ parts x w at g =
 
 unfoldable pub partEvents : Record → Way → Sources → Value → ℕ → List Event
 partEvents x w at g s = getD (parts x w at g) s []
-
--- the specs of memory, but for 20 and 22, the destination of a string instruction
-unfoldable pub takesBase : ℕ → Bool
-takesBase s = ltb s 36 && ltb 17 s && not (eqb s 20) && not (eqb s 22)
 
 -- the segment whose base a part adds: none under LEA where a read part stops
 unfoldable pub partSegment : Record → Way → ℕ → ℕ

@@ -5,7 +5,6 @@ use address::plus;
 use address::sign_extended;
 use address::sum;
 use implicit::Way;
-use moves::fourth_of;
 use moves::is_stopped;
 use moves::put_access;
 use moves::put_deref;
@@ -13,6 +12,8 @@ use moves::put_indexed;
 use moves::put_masked;
 use moves::put_plain;
 use moves::put_segment;
+use operand::fourth_of;
+use operand::takes_base;
 use record::Record;
 use registers::Value;
 use registers::names::EDI;
@@ -25,7 +26,7 @@ ghost use lib.ListN.{length};
 ghost use Rattle.laws.specs.Lending.{size, Logged};
 ghost use Rattle.record.specs.Records.{everydayBytes, recordOf};
 ghost use Rattle.definition.specs.Logs.{eventBytes};
-ghost use Rattle.steps.specs.Parts.{Lent, partEvents, takesBase, partSegment, addedBy, basedEvents, wayOf, partCount, partBits, explicitEvents};
+ghost use Rattle.steps.specs.Parts.{Lent, partEvents, partSegment, addedBy, basedEvents, wayOf, partCount, partBits, explicitEvents};
 
 // One part of an operand, by its spec: Nothing and immediates log nothing. The base of its segment is what is added to its address.
 fn put_part(log: &mut [u8], b: &[u8], spec: u8, way: Way, at: Sources, added: Value) -> usize
@@ -141,13 +142,6 @@ fn way_of(part: u8) -> Way
     ensures { λ r. ⌜ r ≡ wayOf part ⌝ }
 {
     if part % 2 == 0 { Way::Read } else { Way::Write }
-}
-
-// The specs of memory, but for 20 and 22, the destination of a string instruction.
-fn takes_base(spec: u8) -> bool
-    ensures { λ r. ⌜ r ≡ takesBase spec ⌝ }
-{
-    (spec < 36) & (17 < spec) & !(spec == 20) & !(spec == 22)
 }
 
 // The segment whose base a part adds.

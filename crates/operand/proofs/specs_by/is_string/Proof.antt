@@ -1,7 +1,7 @@
 use Rattle.laws.specs.Tests.{any, isIn}
 use mathlib.Core.Bool.{or-assoc, or-false}
-use Rattle.refusals.proofs.refusals.is_string.Statement.{statement}
-use Rattle.refusals.proofs.refusals.is_string.Tie as tie
+use Rattle.operand.proofs.specs_by.is_string.Statement.{statement}
+use Rattle.operand.proofs.specs_by.is_string.Tie as tie
 
 returns : tie.Need-returns
 unfolding any isIn

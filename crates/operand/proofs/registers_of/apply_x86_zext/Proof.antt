@@ -1,7 +1,7 @@
 use borrow.Author.Tests.{eq-eqb, ne-eqb}
 use Rattle.definition.specs.Steps.{widened}
-use Rattle.moves.proofs.registers_of.apply_x86_zext.Statement.{statement}
-use Rattle.moves.proofs.registers_of.apply_x86_zext.Tie as tie
+use Rattle.operand.proofs.registers_of.apply_x86_zext.Statement.{statement}
+use Rattle.operand.proofs.registers_of.apply_x86_zext.Tie as tie
 
 returns : tie.Need-returns
 unfolding widened

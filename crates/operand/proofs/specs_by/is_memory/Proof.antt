@@ -1,9 +1,9 @@
 -- `is_memory` meets its contract: the numbers of the table's memory specs. Assumes nothing.
 use native.Mathlib.Omega.{arith}
 use borrow.Author.Tests.{le-leb, lt-leb}
-use Rattle.fixups.proofs.Shapes.{memory-spec}
-use Rattle.fixups.proofs.memory.is_memory.Statement.{statement}
-use Rattle.fixups.proofs.memory.is_memory.Tie as tie
+use Rattle.operand.proofs.Shapes.{memory-spec}
+use Rattle.operand.proofs.specs_by.is_memory.Statement.{statement}
+use Rattle.operand.proofs.specs_by.is_memory.Tie as tie
 
 returns : tie.Need-returns
 returns c =

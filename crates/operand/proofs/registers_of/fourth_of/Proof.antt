@@ -1,6 +1,6 @@
 use borrow.Author.Needs.{needs}
-use Rattle.moves.proofs.registers_of.fourth_of.Statement.{statement}
-use Rattle.moves.proofs.registers_of.fourth_of.Tie as tie
+use Rattle.operand.proofs.registers_of.fourth_of.Statement.{statement}
+use Rattle.operand.proofs.registers_of.fourth_of.Tie as tie
 
 reg-in-requires : tie.Need-reg-in-requires
 reg-in-requires c κs = search needs

@@ -1,7 +1,7 @@
 use borrow.Author.Tests.{eq-eqb, ne-eqb}
 use Rattle.definition.specs.Addresses.{segmentRegister}
-use Rattle.moves.proofs.registers_of.segment_register.Statement.{statement}
-use Rattle.moves.proofs.registers_of.segment_register.Tie as tie
+use Rattle.operand.proofs.registers_of.segment_register.Statement.{statement}
+use Rattle.operand.proofs.registers_of.segment_register.Tie as tie
 
 returns : tie.Need-returns
 unfolding segmentRegister
