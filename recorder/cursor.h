@@ -81,4 +81,12 @@ static inline Cursor take_part(Cursor *c, uint64_t bytes) {
     part.bad = c->bad;
     return part;
 }
+
+// The next unit of a DWARF table: its length, which says how wide its offsets are, and what stands behind it.
+static inline Cursor take_unit(Cursor *c, int *wide) {
+    uint64_t length = take(c, 4);
+    *wide = length == 0xffffffff;
+    return take_part(c, *wide ? take(c, 8) : length);
+}
+
 #endif

@@ -2,6 +2,7 @@
 #include "image.h"
 #include <elf.h>
 #include <fcntl.h>
+#include <stddef.h>
 #include <stdlib.h>
 #include <string.h>
 #include <sys/stat.h>
@@ -161,16 +162,24 @@ const Symbol *image_symbol(const Image *image, const char *name) {
     return found;
 }
 
-const Symbol *image_function(const Image *image, uint64_t address) {
-    size_t low = 0, high = image->symbol_count;
+// The first of a sorted table whose address, a field of 8 bytes, lies past the one asked for.
+static size_t first_past(const void *table, size_t count, size_t each, size_t field, uint64_t address) {
+    size_t low = 0, high = count;
     while (low < high) {
         size_t middle = low + (high - low) / 2;
-        if (image->symbols[middle].value <= address)
+        uint64_t here;
+        memcpy(&here, (const char *)table + middle * each + field, sizeof here);
+        if (here <= address)
             low = middle + 1;
         else
             high = middle;
     }
-    for (size_t k = low, tries = 0; k-- > 0 && tries < 64; tries++) {
+    return low;
+}
+
+const Symbol *image_function(const Image *image, uint64_t address) {
+    size_t past = first_past(image->symbols, image->symbol_count, sizeof(Symbol), offsetof(Symbol, value), address);
+    for (size_t k = past, tries = 0; k-- > 0 && tries < 64; tries++) {
         const Symbol *s = &image->symbols[k];
         if (s->type == STT_FUNC && address - s->value < (s->size ? s->size : 1))
             return s;
@@ -179,13 +188,6 @@ const Symbol *image_function(const Image *image, uint64_t address) {
 }
 
 const Line *image_line(const Image *image, uint64_t address) {
-    size_t low = 0, high = image->line_count;
-    while (low < high) {
-        size_t middle = low + (high - low) / 2;
-        if (image->lines[middle].address <= address)
-            low = middle + 1;
-        else
-            high = middle;
-    }
+    size_t low = first_past(image->lines, image->line_count, sizeof(Line), offsetof(Line, address), address);
     return low && image->lines[low - 1].file && image->lines[low - 1].line ? &image->lines[low - 1] : NULL;
 }

@@ -218,11 +218,7 @@ void image_read_lines(Image *image) {
     Unit u = {.image = image, .texts = image_section(image, ".debug_str"), .line_texts = image_section(image, ".debug_line_str")};
     u.files = calloc(MOST_FILES, sizeof *u.files);
     while (u.files && c.p < c.end && !c.bad) {
-        uint64_t length = take(&c, 4);
-        u.wide = length == 0xffffffff;
-        if (u.wide)
-            length = take(&c, 8);
-        Cursor unit = take_part(&c, length);
+        Cursor unit = take_unit(&c, &u.wide);
         if (!unit.bad)
             read_unit(&u, &unit);
     }

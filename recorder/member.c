@@ -256,11 +256,7 @@ int image_member(const Image *image, const char *path, uint64_t *offset, uint64_
     Cursor c = {u.info.p, u.info.p + u.info.size, 0};
     while (found != 0 && c.p < c.end && !c.bad) {
         u.start = (uint64_t)(c.p - u.info.p);
-        uint64_t length = take(&c, 4);
-        u.wide = length == 0xffffffff;
-        if (u.wide)
-            length = take(&c, 8);
-        Cursor unit = take_part(&c, length);
+        Cursor unit = take_unit(&c, &u.wide);
         if (!unit.bad)
             found = read_unit(&u, &unit, path, offset, size);
     }

@@ -1,19 +1,12 @@
 // Damaged program files must not stop the reader: bytes of a good one are changed at random, and everything that it says is asked for.
 // usage: damaged FILE SEED COUNT
 #include "../image.h"
+#include "any.h"
 #include <stdio.h>
 #include <stdlib.h>
 #include <string.h>
+#include <sys/mman.h>
 #include <unistd.h>
-
-static uint64_t state;
-
-static uint64_t any(void) {
-    state ^= state << 13;
-    state ^= state >> 7;
-    state ^= state << 17;
-    return state;
-}
 
 static void damage(uint8_t *bytes, size_t size, const size_t *places, size_t count) {
     for (uint64_t n = 1 + any() % 12; n > 0; n--) {
@@ -65,8 +58,9 @@ int main(int count, char **words) {
     }
     state = strtoull(words[2], NULL, 0) * 2654435761u + 1;
     long read = 0;
-    char path[] = "/tmp/damaged.XXXXXX";
-    int fd = mkstemp(path);
+    int fd = memfd_create("damaged", 0);
+    char path[32];
+    snprintf(path, sizeof path, "/proc/self/fd/%d", fd);
     for (long k = atol(words[3]); k > 0 && fd >= 0; k--) {
         size_t length = any() % 8 ? size : any() % size;
         memcpy(bad, good, size);
@@ -75,7 +69,6 @@ int main(int count, char **words) {
             return 2;
         read += ask(path);
     }
-    unlink(path);
     printf("%ld read without harm\n", read);
     return read == 0; // all refused at once would show nothing
 }

@@ -1,18 +1,10 @@
 // Random instructions under random registers: what the library logs of their records must be what Zydis' operands say. Runs on any
 // processor, since nothing is executed. usage: random SEED COUNT
 #include "../witness.h"
+#include "any.h"
 #include <stdio.h>
 #include <stdlib.h>
 #include <string.h>
-
-static uint64_t state;
-
-static uint64_t any(void) {
-    state ^= state << 13;
-    state ^= state >> 7;
-    state ^= state << 17;
-    return state;
-}
 
 // Prefixes stand more often than chance would have them.
 static void any_code(uint8_t code[CODE_BYTES]) {

@@ -2,6 +2,7 @@
 mod across;
 mod answer;
 mod block;
+mod grouped;
 mod html;
 mod jobs;
 mod moment;

@@ -1,4 +1,5 @@
 //! Words of a page, and how they are made harmless.
+pub(super) use super::super::grouped::grouped;
 use super::super::touched::runs;
 
 /// A text between tags or in quotes: none of its characters is taken for markup.
@@ -15,20 +16,6 @@ pub(super) fn escaped(text: &str) -> String {
         }
     }
     safe
-}
-
-/// A count with its thousands apart: `1,000,003`. (Numbers of records stay as they are typed.)
-pub(super) fn grouped(n: u64) -> String {
-    let digits = n.to_string();
-    let mut out = String::new();
-    for (k, digit) in digits.chars().enumerate() {
-        let left = digits.len().saturating_sub(k);
-        if k > 0 && left.checked_rem(3) == Some(0) {
-            out.push(',');
-        }
-        out.push(digit);
-    }
-    out
 }
 
 /// `no store`, `1 store`, `3,000 stores`.

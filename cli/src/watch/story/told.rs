@@ -1,4 +1,5 @@
 //! A story in words: one sentence first.
+use super::super::grouped::grouped;
 use super::super::touched::runs;
 use super::{Met, Place, Read, Spot, Story};
 use crate::format::put;
@@ -6,20 +7,6 @@ use crate::format::put;
 /// So many reads of what never was there are named, and so many places.
 const NAMED: usize = 10;
 const PLACES: usize = 4;
-
-/// A count with its thousands apart: `4,294,967,296`.
-fn grouped(n: u64) -> String {
-    let digits = n.to_string();
-    let mut out = String::new();
-    for (k, digit) in digits.chars().enumerate() {
-        let left = digits.len().saturating_sub(k);
-        if k > 0 && left.checked_rem(3) == Some(0) {
-            out.push(',');
-        }
-        out.push(digit);
-    }
-    out
-}
 
 fn signed(n: i64) -> String {
     let sign = if n < 0 { "-" } else { "+" };
