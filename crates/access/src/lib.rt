@@ -1,10 +1,12 @@
 // How operands are used, which privilege an instruction needs, and which exceptions it may raise.
+#![tactic(auto)]
+
 mod accesses;
 mod exceptions;
 mod privileges;
 
 // How an operand is used.
-#[derive(Drop)]
+#[derive(Clone, Copy)]
 pub enum Access {
     None,
     Read,
@@ -13,7 +15,7 @@ pub enum Access {
 }
 
 // The privilege level that an instruction needs.
-#[derive(Drop)]
+#[derive(Clone, Copy)]
 pub enum PrivilegeLevel {
     Any,
     PL0,
@@ -22,26 +24,26 @@ pub enum PrivilegeLevel {
 }
 
 // An exception vector, as the processor numbers them.
-#[derive(Drop)]
+#[derive(Clone, Copy)]
 pub struct Exception {
     pub vector: u8,
 }
 
 // A set of exception vectors: bit k for vector k.
-#[derive(Drop)]
+#[derive(Clone, Copy)]
 pub struct ExceptionInfo {
     pub vectors: u32,
 }
 
 // What setting a vector answers: the set, or a refusal number.
-#[derive(Drop)]
+#[derive(Clone, Copy)]
 pub enum InfoAnswer {
     Done(ExceptionInfo),
     Refused(u8),
 }
 
 // What asking for a vector answers.
-#[derive(Drop)]
+#[derive(Clone, Copy)]
 pub enum MayAnswer {
     Done(bool),
     Refused(u8),

@@ -11,7 +11,7 @@ use registers::{RegisterFile, Value};
 
 // What the addresses of a record are made of: `regs[1]`, `regs[2]` times scale, the two registers that specs 20 to 23 name whole or
 // by their low half, where the memory of the implicit list lies, and the base of the record's segment.
-#[derive(Drop)]
+#[derive(Clone, Copy)]
 pub struct Sources {
     pub base: Value,
     pub index: Value,

@@ -1,4 +1,6 @@
 // The numbers that the calls answer: which bits hold what.
+#![tactic(auto)]
+
 mod bits; // bits.rt: the parts of an answer, each at its bit
 mod events; // events.rt: what a log has at a place
 

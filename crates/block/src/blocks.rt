@@ -11,7 +11,7 @@ use visiting::visit_accesses;
 
 // What a block answers: 0, or why the whole call is refused; how many records stand before the first that is refused 7, which are all
 // where none is; and how many bytes of log were written.
-#[derive(Drop)]
+#[derive(Clone, Copy)]
 pub struct Blocked {
     pub number: u8,
     pub count: usize,

@@ -1,10 +1,12 @@
 // The types that the definitions of specs/ speak of. No code stands here: what must be believed is read in specs/.
+#![tactic(auto)]
+
 use access::{Access, PrivilegeLevel};
 use implicit::ImplicitOperand;
 use registers::RegSpec;
 
 // What a spec stands for: a register by its place in `regs`, masked or not; Reg4; an immediate; or memory by its parts.
-#[derive(Drop)]
+#[derive(Clone, Copy)]
 pub enum Shape {
     Nothing,
     Register(u8, bool),
@@ -15,7 +17,7 @@ pub enum Shape {
 
 // The base of a memory spec: none, `regs[1]`, or a register that the spec names, as a place or as the destination of a string
 // instruction, to which no segment applies.
-#[derive(Drop)]
+#[derive(Clone, Copy)]
 pub enum Base {
     NoBase,
     Based,
@@ -24,7 +26,7 @@ pub enum Base {
 }
 
 // The displacement of a memory spec: none, the low 32 bits sign-extended, the whole, the low 32 bits zero-extended.
-#[derive(Drop)]
+#[derive(Clone, Copy)]
 pub enum Displacement {
     NoDisp,
     Disp32,
@@ -33,7 +35,7 @@ pub enum Displacement {
 }
 
 // A register that enters an address: as it is, or times a scale.
-#[derive(Drop)]
+#[derive(Clone, Copy)]
 pub enum Term {
     Absent,
     Plain(RegSpec),
@@ -41,7 +43,7 @@ pub enum Term {
 }
 
 // An address before any register is asked for its value, and whether the sum is cut to its low 32 bits.
-#[derive(Drop)]
+#[derive(Clone, Copy)]
 pub struct Address {
     pub base: Term,
     pub index: Term,
@@ -50,7 +52,7 @@ pub struct Address {
 }
 
 // An event of a log. The last number of a memory event is its size.
-#[derive(Drop)]
+#[derive(Clone, Copy)]
 pub enum Event {
     RegisterRead(RegSpec),
     RegisterWrite(RegSpec),
@@ -61,7 +63,7 @@ pub enum Event {
 }
 
 // What reading a log at a place finds: an event and the place after it, a refusal, or the end.
-#[derive(Drop)]
+#[derive(Clone, Copy)]
 pub enum Reading {
     Found(Event, usize),
     Bad(u8),
@@ -69,7 +71,7 @@ pub enum Reading {
 }
 
 // An item of a listing, with its access: the flags, an implicit operand, or an explicit one by index and spec.
-#[derive(Drop)]
+#[derive(Clone, Copy)]
 pub enum Item {
     Flags(Access),
     Implicit(ImplicitOperand, Access),
@@ -78,7 +80,7 @@ pub enum Item {
 
 // What visiting or listing answers: how many bytes it wrote, a refusal number, the opcode of a complex instruction (refused 4), or
 // how many bytes it needs where it has too little room (refused 7).
-#[derive(Drop)]
+#[derive(Clone, Copy)]
 pub enum Answer {
     Done(usize),
     Refused(u8),
@@ -87,7 +89,7 @@ pub enum Answer {
 }
 
 // What the privilege call answers: the level, or a refusal number.
-#[derive(Drop)]
+#[derive(Clone, Copy)]
 pub enum PrivilegeAnswer {
     Done(PrivilegeLevel),
     Refused(u8),

@@ -5,7 +5,7 @@ ghost use Rattle.difference.specs.Partings.{parted_of, parting_of};
 
 use crate::logs::{Parted, part_logs, tail};
 
-#[derive(Drop)]
+#[derive(Clone, Copy)]
 pub struct Difference<'b> {
     pub number: u8,
     pub differs: bool,

@@ -1,4 +1,6 @@
 // Where two logs part. Logs are compared event by event, and only where both read whole.
+#![tactic(auto)]
+
 mod held; // held.rt: number, sign and part in one struct
 mod logs; // logs.rt: number, sign and place; the part of the second log
 mod same; // same.rt: one event and another

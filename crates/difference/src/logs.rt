@@ -7,7 +7,7 @@ use crate::walk::shared_end;
 use event::Counted;
 
 // The refusal number or 0, whether the logs differ, and where the part of the second log begins.
-#[derive(Drop)]
+#[derive(Clone, Copy)]
 pub struct Parted {
     pub number: u8,
     pub differs: bool,

@@ -1,4 +1,6 @@
 // The behavior digest of an instruction: privilege, flags access, operand accesses and the implicit list, in 32 bits.
+#![tactic(auto)]
+
 ghost use Rattle.std.specs.Prelude.{◌≡◌, cond, ◌<◌};
 ghost use Rattle.access.specs.Accesses.{access_number, access_of};
 ghost use Rattle.access.specs.Privileges.{level_of};
@@ -9,7 +11,7 @@ ghost use Rattle.digest.specs.Digests.{operand_answer, list_answer, then};
 use access::{Access, PrivilegeLevel};
 
 // The fields are those of document 01: `behavior`, `operand_access` and `extra`.
-#[derive(Drop)]
+#[derive(Clone, Copy)]
 pub struct BehaviorDigest {
     pub behavior: u8,
     pub operands: u8,
@@ -17,7 +19,7 @@ pub struct BehaviorDigest {
 }
 
 // What a setter that can refuse answers: the digest, or a refusal number.
-#[derive(Drop)]
+#[derive(Clone, Copy)]
 pub enum DigestAnswer {
     Done(BehaviorDigest),
     Refused(u8),

@@ -6,7 +6,7 @@ use crate::reader::read_event;
 use definition::Reading;
 
 // How many events a log has, or why it does not read whole.
-#[derive(Drop)]
+#[derive(Clone, Copy)]
 pub enum Counted {
     All(usize),
     Refused(u8),

@@ -1,4 +1,6 @@
 // The base digests of everyday integer code, for a front end that knows opcodes and no digests.
+#![tactic(auto)]
+
 ghost use Rattle.std.specs.Prelude.{◌≡◌};
 ghost use Rattle.digest.specs.Digests.{digest_in};
 ghost use Rattle.everyday.specs.Rows.{everyday_digest, is_everyday};

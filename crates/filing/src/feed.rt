@@ -11,7 +11,7 @@ const HEADER_BYTES: usize = 9;
 const LENGTH_BYTES: usize = 4;
 
 // What is under way: an address and a watched length, a log's length, or a log of so many bytes.
-#[derive(Drop)]
+#[derive(Clone, Copy)]
 pub enum Part {
     Header,
     Length,
@@ -19,7 +19,7 @@ pub enum Part {
 }
 
 // The part under way and how many of its bytes there are; or the number that was refused.
-#[derive(Drop)]
+#[derive(Clone, Copy)]
 pub struct Feed {
     pub part: Part,
     pub have: usize,

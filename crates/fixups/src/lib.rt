@@ -1,4 +1,6 @@
 // What a record alone says of its instruction: the digest after fix-ups, whether it is complex, its privilege, its exceptions.
+#![tactic(auto)]
+
 ghost use Rattle.std.specs.Prelude.{◌≡◌};
 ghost use Rattle.access.specs.Exceptions.{info_of};
 ghost use Rattle.access.specs.declared.InfoAnswer.TheVariants.{Done};

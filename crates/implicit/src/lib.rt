@@ -1,4 +1,6 @@
 // The operands that an instruction has without naming them: the lists 0 to 28.
+#![tactic(auto)]
+
 ghost use Rattle.std.specs.Prelude.{◌≡◌};
 ghost use Rattle.laws.specs.Tests.{any};
 ghost use Rattle.implicit.specs.Codes.{entry_of, row_of};
@@ -8,14 +10,14 @@ ghost use Rattle.implicit.specs.Memory.{memory_form, memory_entry};
 use registers::RegSpec;
 
 // An entry reads or writes.
-#[derive(Drop)]
+#[derive(Clone, Copy)]
 pub enum Way {
     Read,
     Write,
 }
 
 // One of four operand forms. A displacement below 0 is held as two to the 32 less.
-#[derive(Drop)]
+#[derive(Clone, Copy)]
 pub enum ImplicitOperand {
     Register(RegSpec),
     MemDeref(RegSpec),
@@ -24,7 +26,7 @@ pub enum ImplicitOperand {
 }
 
 // An entry of a list: an operand, or the operand slot of a string instruction (`Deref_rdi`).
-#[derive(Drop)]
+#[derive(Clone, Copy)]
 pub enum Entry {
     Operand(ImplicitOperand, Way),
     Slot(u8, Way),

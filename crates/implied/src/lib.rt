@@ -1,4 +1,6 @@
 // The implicit lists, as document 01 gives them.
+#![tactic(auto)]
+
 ghost use Rattle.std.specs.Prelude.{◌≤◌, ◌∷◌, [], length};
 ghost use Rattle.laws.specs.Lending.{size, Logged};
 ghost use Rattle.definition.specs.Logs.{event_bytes, memory_event};

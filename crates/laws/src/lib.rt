@@ -1,5 +1,7 @@
 // Numbers in bytes, lowest byte first: what every layer above reads and writes. A width is a pair of the width below it, and what is
 // stored are single bytes: the compiler makes one load or one store of each number.
+#![tactic(auto)]
+
 ghost use Rattle.std.specs.Prelude.{◌≡◌, ◌++◌, ◌+◌, ◌≤◌, ◌<◌, length, drop};
 ghost use Rattle.laws.specs.Lending.{lacks_room};
 ghost use Rattle.laws.specs.Words.{number_at, little};

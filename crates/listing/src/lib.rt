@@ -1,4 +1,6 @@
 // The listing of a record: its items in their order, walked by a cursor, and their bytes.
+#![tactic(auto)]
+
 mod call;
 mod cursor;
 mod items;
@@ -9,14 +11,14 @@ pub use items::put_item;
 
 // A place in the walk, as the Rust's iterator holds it without the record: before the explicit operands, `next` 0 stands at the flags and
 // `next` i + 1 at entry i of the implicit list; among the explicit operands, `next` i stands at operand i.
-#[derive(Drop)]
+#[derive(Clone, Copy)]
 pub struct AccessIter {
     pub explicit: bool,
     pub next: u8,
 }
 
 // What a step of the walk finds: an item and the place behind it, or nothing left.
-#[derive(Drop)]
+#[derive(Clone, Copy)]
 pub enum Listed {
     Found(Item, AccessIter),
     Finished,

@@ -1,4 +1,6 @@
 // What users call: every call takes bytes and answers one number, whose bits crate answers names. No call requires anything.
+#![tactic(auto)]
+
 mod blocks; // blocks.rt: the call on a block of records
 mod calls; // calls.rt: the calls on a record and on a log, exported as C
 mod fetches; // fetches.rt: the calls on a set of registers for a list of records

@@ -1,4 +1,6 @@
 // What a part of an explicit operand does to registers and memory, written: no register file is asked.
+#![tactic(auto)]
+
 mod memory; // memory.rt: memory that it touches
 mod registers_of; // registers_of.rt: registers that it reads or writes
 

@@ -1,4 +1,6 @@
 // What a spec stands for: the one place that knows specs by their numbers beside the arms that write their events.
+#![tactic(auto)]
+
 mod registers_of; // registers_of.rt: the registers that an operand stands for
 mod specs_by; // specs_by.rt: memory, string specs, and where a segment's base is added
 

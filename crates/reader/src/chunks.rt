@@ -19,7 +19,7 @@ use visiting::MOST_BYTES;
 pub const ITEM_ROOM: usize = 160;
 
 // How many bytes are kept of the unfinished item, and of the latest good file, 0 for none; and whether an unknown kind was met.
-#[derive(Drop)]
+#[derive(Clone, Copy)]
 pub struct Reader {
     pub kept: usize,
     pub file: usize,
@@ -27,7 +27,7 @@ pub struct Reader {
 }
 
 // What a call answers, and the reader from now on.
-#[derive(Drop)]
+#[derive(Clone, Copy)]
 pub struct Reply {
     pub call: Call,
     pub reader: Reader,

@@ -9,7 +9,7 @@ use crate::kinds::{is_file, length_of, of_file};
 
 // What a chunk brought so far: nothing that is answered; the byte of an unknown kind, which is next; or a bad file or a record, which
 // stands whole where items are kept.
-#[derive(Drop)]
+#[derive(Clone, Copy)]
 pub enum Brought {
     Nothing,
     Unknown,
@@ -18,7 +18,7 @@ pub enum Brought {
 }
 
 // How far a chunk is taken: what it brought, the bytes kept of an item and of the latest good file, and the bytes taken.
-#[derive(Drop)]
+#[derive(Clone, Copy)]
 pub struct Taking {
     pub brought: Brought,
     pub kept: usize,

@@ -1,4 +1,6 @@
 // A record of one instruction, from its bytes.
+#![tactic(auto)]
+
 ghost use Rattle.std.specs.Prelude.{◌≡◌, not, ◌+◌, ◌≤◌, ◌<◌, ◌∷◌, [], length, get_or, ltb};
 ghost use Rattle.digest.specs.Digests.{digest_in};
 ghost use Rattle.laws.specs.Words.{bit};
@@ -34,7 +36,7 @@ pub const SEGMENT_BYTES: usize = RECORD_BYTES + 1;
 pub const UNLISTED: u8 = 9;
 
 // The fields of a record, in their order: `size` is document 01's `mem_size`.
-#[derive(Drop)]
+#[derive(Clone, Copy)]
 pub struct Record {
     pub opcode: u16,
     pub count: u8,
@@ -51,7 +53,7 @@ pub struct Record {
 }
 
 // A record, or a refusal number and a record whose numbers are all 0.
-#[derive(Drop)]
+#[derive(Clone, Copy)]
 pub struct RecordAnswer {
     pub number: u8,
     pub read: Record,

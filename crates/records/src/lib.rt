@@ -1,4 +1,6 @@
 // A list of records as bytes, one after the other, each of the same length.
+#![tactic(auto)]
+
 ghost use Rattle.std.specs.Prelude.{◌≡◌};
 ghost use Rattle.laws.specs.Tests.{is_in};
 ghost use Rattle.records.specs.Lists.{record_lengths, list_refusal};

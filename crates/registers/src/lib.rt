@@ -1,4 +1,6 @@
 // Registers by bank and number, and the register file that says what is known of them.
+#![tactic(auto)]
+
 pub mod names; // names.rt: the registers that lists, specs and segments name
 
 ghost use Rattle.std.specs.Prelude.{◌≡◌, cond, ◌+◌, ◌<◌, ◌≤◌, ◌^◌, length, get_or};
@@ -23,35 +25,35 @@ pub const FILE_BYTES: usize = 5 + 8 * PLAIN_SLOTS;
 pub const BASED_BYTES: usize = 5 + 8 * FILE_SLOTS;
 
 // A register: its bank, and its number there.
-#[derive(Drop)]
+#[derive(Clone, Copy)]
 pub struct RegSpec {
     pub bank: u8,
     pub number: u8,
 }
 
 // What is known of a register.
-#[derive(Drop)]
+#[derive(Clone, Copy)]
 pub enum Value {
     Known(u64),
     Unknown,
 }
 
 // What is known of the two registers of an address.
-#[derive(Drop)]
+#[derive(Clone, Copy)]
 pub struct TwoValues {
     pub base: Value,
     pub index: Value,
 }
 
 // The sixteen general registers, rip, and the bases of fs and gs, and a bit for each that is known.
-#[derive(Drop)]
+#[derive(Clone, Copy)]
 pub struct RegisterFile {
     pub values: [u64; FILE_SLOTS],
     pub known: u32,
 }
 
 // A register file, or a refusal number and a file that knows nothing.
-#[derive(Drop)]
+#[derive(Clone, Copy)]
 pub struct FileAnswer {
     pub number: u8,
     pub file: RegisterFile,
@@ -219,7 +221,7 @@ impl RegisterFile {
 }
 
 // The values of fs and gs in a file's bytes: 0 in a kind that has none.
-#[derive(Drop)]
+#[derive(Clone, Copy)]
 struct Bases {
     fs: u64,
     gs: u64,

@@ -6,7 +6,7 @@ use crate::calls::is_same;
 use crate::files::{Part, file, part_at};
 
 // What a case's head says, field by field.
-#[derive(Drop)]
+#[derive(Clone, Copy)]
 pub struct Head {
     pub call: u8,
     pub count: u8,
@@ -18,7 +18,7 @@ pub struct Head {
 }
 
 // A case, and where its record or log, the bytes written and the next case start.
-#[derive(Drop)]
+#[derive(Clone, Copy)]
 pub struct Case {
     pub head: Head,
     pub subject: usize,
@@ -26,7 +26,7 @@ pub struct Case {
     pub next: usize,
 }
 
-#[derive(Drop)]
+#[derive(Clone, Copy)]
 pub enum Found {
     One(Case),
     Missing,

@@ -3,7 +3,7 @@ ghost use Rattle.std.specs.Prelude.{◌+◌, length};
 ghost use Rattle.replay.specs.Parts.{IsPart, Within};
 
 // A part of the list: its first place, and the place behind it.
-#[derive(Drop)]
+#[derive(Clone, Copy)]
 pub enum Part {
     Bytes { from: usize, to: usize },
     Missing,

@@ -4,6 +4,8 @@
 // In oracle/, this makes it again:
 //
 //     cargo run --release --offline --bin list > ../crates/replay/data/answers.list
+#![tactic(auto)]
+
 mod calls;
 mod cases;
 mod files;

@@ -4,7 +4,7 @@ ghost use Rattle.std.specs.Prelude.{◌<◌};
 use crate::cases::{Found, case_at, holds};
 
 // The place of the next case; how many cases each call had, at its number (0: no call); how many differ.
-#[derive(Drop)]
+#[derive(Clone, Copy)]
 pub struct Tally {
     pub at: usize,
     pub calls: [u64; 7],

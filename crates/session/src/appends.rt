@@ -8,7 +8,7 @@ use definition::Answer;
 
 // How many bytes of the buffer are used, from its start on; how many events stand there; and how many of these are memory events at
 // unknown addresses.
-#[derive(Drop)]
+#[derive(Clone, Copy)]
 pub struct Session {
     pub used: usize,
     pub events: u64,
@@ -16,7 +16,7 @@ pub struct Session {
 }
 
 // What an append gives: what visiting answered, and the session after it.
-#[derive(Drop)]
+#[derive(Clone, Copy)]
 pub struct Appended {
     pub answer: Answer,
     pub session: Session,

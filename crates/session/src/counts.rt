@@ -7,7 +7,7 @@ use definition::{Event, Reading};
 use event::read_event;
 
 // How many events a log has, and how many of them are memory events at unknown addresses.
-#[derive(Drop)]
+#[derive(Clone, Copy)]
 pub(crate) struct Counts {
     pub(crate) events: u64,
     pub(crate) unknown: u64,

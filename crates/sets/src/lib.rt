@@ -1,4 +1,6 @@
 // Sets of small numbers, as the bits of a word.
+#![tactic(auto)]
+
 ghost use Rattle.std.specs.Prelude.{◌≡◌, true, ◌<◌};
 ghost use Rattle.laws.specs.Words.{bit};
 ghost use Rattle.access.specs.Exceptions.{with_bit};

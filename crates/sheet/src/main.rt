@@ -1,5 +1,7 @@
 // sheet FILE: prints the acceptance sheet of a file of logs, or the number of the first refusal. The file is read to its end before
 // anything is printed, in blocks, so that it may be larger than memory.
+#![tactic(auto)]
+
 ghost use Rattle.std.specs.Prelude.{◌≤◌, length};
 ghost use Rattle.totals.specs.Sheets.{most_log_bytes};
 ghost use Rattle.filing.specs.Feeds.{Ready};
@@ -9,7 +11,7 @@ use libc::STDOUT_FILENO;
 use totals::WORDS;
 
 // The feed after a block; whether there may be more; whether reading failed.
-#[derive(Drop)]
+#[derive(Clone, Copy)]
 struct Turn {
     feed: Feed,
     more: bool,

@@ -1,9 +1,10 @@
 // What a reader of a stream answers. No code stands here: the definitions are in specs/, what is promised of them too, and the proofs in
 // proofs/. The crate `reader` has the code.
+#![tactic(auto)]
 
 // The answer of one call. Whether a record or a bad file finished, and how many bytes of the chunk are taken; n is the log's length, or
 // after 7 the bytes needed; the opcode is 0 but after 4.
-#[derive(Drop)]
+#[derive(Clone, Copy)]
 pub struct Call {
     pub number: u8,
     pub finished: bool,

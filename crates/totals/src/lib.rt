@@ -1,4 +1,6 @@
 // Exact figures for the acceptance sheet: totals over many logs under one watch.
+#![tactic(auto)]
+
 mod sheet; // sheet.rt: a new sheet, and one log more
 mod words; // words.rt: what an event adds to the words
 

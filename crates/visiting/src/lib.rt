@@ -1,4 +1,6 @@
 // Visiting a record: its refusals in their order, and its log in the lent buffer.
+#![tactic(auto)]
+
 mod number; // number.rt: the number of an answer
 mod visit; // visit.rt: the call
 

@@ -1,4 +1,6 @@
 // A watch in words: what a C caller keeps of it, and the numbers that its calls answer.
+#![tactic(auto)]
+
 mod bits; // bits.rt: the parts of an answer, each at its bit
 mod words; // words.rt: a watch as ten words
 

@@ -1,4 +1,6 @@
 // Who tore a variable: the stores of a trace against a watched variable, one pair of a record and a register file at a time.
+#![tactic(auto)]
+
 mod tallies; // tallies.rt: write events counted by verdict
 mod verdicts; // verdicts.rt: how much of the variable one event wrote
 mod watch; // watch.rt: the watch, and its step

@@ -9,7 +9,7 @@ use definition::Reading;
 use event::read_event;
 
 // How many write events got each verdict.
-#[derive(Drop)]
+#[derive(Clone, Copy)]
 pub struct Tally {
     pub unknown: u64,
     pub none: u64,

@@ -10,7 +10,7 @@ use definition::{Event, Reading};
 use event::read_event;
 
 // A variable in memory: its first byte's address and its length in bytes.
-#[derive(Drop)]
+#[derive(Clone, Copy)]
 pub struct Variable {
     pub address: u64,
     pub length: u64,
@@ -18,7 +18,7 @@ pub struct Variable {
 
 // What an event did to the variable: it wrote no memory, or it wrote at an address that is not known, or it wrote none, part or whole of
 // the variable's bytes.
-#[derive(Drop)]
+#[derive(Clone, Copy)]
 pub enum Verdict {
     NoWrite,
     AddressUnknown,
@@ -29,7 +29,7 @@ pub enum Verdict {
 
 // What is said of the event at a place of a log: its verdict, the variable's bytes that it wrote (bit i for byte i) and the place after
 // it; or a refusal number; or that the log has ended.
-#[derive(Drop)]
+#[derive(Clone, Copy)]
 pub enum Naming {
     Named(Verdict, u8, usize),
     Unnamed(u8),

@@ -15,7 +15,7 @@ use visiting::MOST_BYTES;
 pub const MOST_PAIRS: u64 = 1000000;
 
 // The number of a pair in its trace, where there is one.
-#[derive(Drop)]
+#[derive(Clone, Copy)]
 pub enum When {
     Never,
     At(u64),
@@ -23,7 +23,7 @@ pub enum When {
 
 // The pairs taken so far, their write events by verdict, the pairs that visiting refused, the first pair with a part write and the last
 // with a whole one.
-#[derive(Drop)]
+#[derive(Clone, Copy)]
 pub struct Watch {
     pub variable: Variable,
     pub pairs: u64,
@@ -34,7 +34,7 @@ pub struct Watch {
 }
 
 // What a new watch answers: the watch, or a refusal number.
-#[derive(Drop)]
+#[derive(Clone, Copy)]
 pub enum WatchAnswer {
     Done(Watch),
     Refused(u8),
@@ -42,7 +42,7 @@ pub enum WatchAnswer {
 
 // What a step gives: 0, or 2 where the pair was not taken; what visiting the pair answered; its own write events by verdict; the watch
 // after it.
-#[derive(Drop)]
+#[derive(Clone, Copy)]
 pub struct Stepped {
     pub number: u8,
     pub visit: Answer,

@@ -4,11 +4,11 @@ use Rattle.access.proofs.Laws.{access_lt}
 use Rattle.digest.proofs.two_bits.Statement.{statement}
 use Rattle.digest.proofs.two_bits.Tie as tie
 
-to-bits-requires : tie.Need-to-bits-requires
-to-bits-requires c κs = search rules
+to_bits_requires : tie.Need-to_bits-requires
+to_bits_requires c κs = search rules
 
 returns : tie.Need-returns
-returns c = (c.to-bits.ensures, rw c.to-bits.ensures (access_lt c.before.args.access))
+returns c = (c.to_bits.ensures, rw c.to_bits.ensures (access_lt c.args.access))
 
-pub two-bits-spec : {M : Type 1} → statement M
-two-bits-spec = tie.close (tie.spec to-bits-requires returns)
+pub two_bits_spec : {M : Type 1} → statement M
+two_bits_spec = tie.close (tie.spec to_bits_requires returns)

@@ -5,12 +5,12 @@ use Rattle.everyday.proofs.Laws.{held}
 use Rattle.everyday.proofs.is_everyday.Statement.{statement}
 use Rattle.everyday.proofs.is_everyday.Tie as tie
 
-code-of-requires : tie.Need-code-of-requires
-code-of-requires c κs = search rules
+code_of_requires : tie.Need-code_of-requires
+code_of_requires c κs = search rules
 
 returns : tie.Need-returns
 unfolding code_at is_everyday
-returns c = rw c.code_of_lem.ensures (held c.before.args.opcode).there
+returns c = rw c.code_of.ensures (held c.args.opcode).there
 
-pub is-everyday-spec : {M : Type 1} → statement M
-is-everyday-spec = tie.close (tie.spec code-of-requires returns)
+pub is_everyday_spec : {M : Type 1} → statement M
+is_everyday_spec = tie.close (tie.spec code_of_requires returns)

@@ -9,32 +9,32 @@ use Rattle.laws.proofs.Keys.{otherwise}
 use Rattle.implicit.proofs.entry_of.Statement.{statement}
 use Rattle.implicit.proofs.entry_of.Tie as tie
 
-cast-number : tie.Need-overflow-cast-number
-cast-number c = search rules
+cast_number : tie.Need-overflow_cast-number
+cast_number c = search rules
 
-cast-t7 : tie.Need-overflow-cast-t7
-cast-t7 c = search rules
+cast_t7 : tie.Need-overflow_cast-x
+cast_t7 c = search rules
 
 -- any other form
-returns-9 : tie.Need-returns-9
+returns_9 : tie.Need-returns-in_default
 unfolding entry_of
-returns-9 c =
-    let code = c.before.args.code in
-    sym (otherwise End (drop 1 (forms (register_in code))) (code / 256) c.match.rest)
+returns_9 c =
+    let code = c.args.code in
+    sym (otherwise End (drop 1 (forms (register_in code))) (code / 256) c.in_default.in_default-own.rest)
 
-pub entry-of-spec : {M : Type 1} → statement M
+pub entry_of_spec : {M : Type 1} → statement M
 unfolding entry_of
-entry-of-spec =
+entry_of_spec =
     tie.close
     (tie.spec
-    cast-number
-    cast-t7
-    (λ c. rw c.match.keys1)
-    (λ c. rw c.match.keys2)
-    (λ c. rw c.match.keys3)
-    (λ c. rw c.match.keys4)
-    (λ c. rw c.match.keys5)
-    (λ c. rw c.match.keys6)
-    (λ c. rw c.match.keys7)
-    (λ c. rw c.match.keys8)
-    returns-9)
+    cast_number
+    cast_t7
+    (λ c. rw c.in-1.is)
+    (λ c. rw c.in-2.is)
+    (λ c. rw c.in-3.is)
+    (λ c. rw c.in-4.is)
+    (λ c. rw c.in-5.is)
+    (λ c. rw c.in-6.is)
+    (λ c. rw c.in-7.is)
+    (λ c. rw c.in-8.is)
+    returns_9)

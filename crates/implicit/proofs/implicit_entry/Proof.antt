@@ -8,44 +8,44 @@ use Rattle.implicit.proofs.Table.{rows_right}
 use Rattle.implicit.proofs.implicit_entry.Statement.{statement}
 use Rattle.implicit.proofs.implicit_entry.Tie as tie
 
-returns : tie.Need-returns
+returns : tie.Need-returns-then-i-gt3
 returns c =
-    let l = c.before.args.list in
-    sym (past_last l c.before.args.i (omega (arith, at_most_four l)))
+    let l = c.args.list in
+    sym (past_last l c.args.i (omega (arith, at_most_four l)))
 
-row-of-requires : tie.Need-row-of-requires
-row-of-requires c κs = search rules
+row_of_requires : tie.Need-row_of-requires
+row_of_requires c κs = search rules
 
-mul-rest : tie.Need-overflow-mul-rest
-mul-rest c = search rules
+mul_rest : tie.Need-overflow_mul-rest
+mul_rest c = search rules
 
-cast-rest : tie.Need-overflow-cast-rest
-cast-rest c = search rules
+cast_rest : tie.Need-overflow_cast-rest
+cast_rest c = search rules
 
-shr-rest : tie.Need-overflow-shr-rest
-shr-rest c = search rules
+shr_rest : tie.Need-overflow_shr-rest
+shr_rest c = search rules
 
-cast-entry-of : tie.Need-overflow-cast-entry-of
-cast-entry-of c = search rules
+cast_entry_of : tie.Need-overflow_cast-rest-2
+cast_entry_of c = search rules
 
-entry-of-requires : tie.Need-entry-of-requires
-entry-of-requires c κs = search rules
+entry_of_requires : tie.Need-entry_of-requires
+entry_of_requires c κs = search rules
 
-returns-2 : tie.Need-returns-2
+returns_2 : tie.Need-returns
 unfolding code_in
-returns-2 c =
-    let s = c.before.before.before in
-    c.entry_of.ensures ∙ rw c.before.row_of.ensures (rows_right s.args.list s.args.i (search rules))
+returns_2 c =
+    let s = c in
+    c.entry_of.ensures ∙ rw c.row_of.ensures (rows_right s.args.list s.args.i (search rules))
 
-pub implicit-entry-spec : {M : Type 1} → statement M
-implicit-entry-spec =
+pub implicit_entry_spec : {M : Type 1} → statement M
+implicit_entry_spec =
     tie.close
     (tie.spec
     returns
-    row-of-requires
-    mul-rest
-    cast-rest
-    shr-rest
-    cast-entry-of
-    entry-of-requires
-    returns-2)
+    row_of_requires
+    mul_rest
+    cast_rest
+    shr_rest
+    cast_entry_of
+    entry_of_requires
+    returns_2)

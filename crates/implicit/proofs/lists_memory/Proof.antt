@@ -9,16 +9,16 @@ use Rattle.implicit.proofs.Table.{bits_right}
 use Rattle.implicit.proofs.lists_memory.Statement.{statement}
 use Rattle.implicit.proofs.lists_memory.Tie as tie
 
-shr-result : tie.Need-overflow-shr-result
-shr-result c = search rules
+shr_result : tie.Need-overflow_shr-result
+shr_result c = search rules
 
-returns : tie.Need-returns
+returns : tie.Need-returns-then-list-le28
 unfolding any bit
-returns c = bits_right _ refl c.before.args.list (search rules)
+returns c = bits_right _ refl c.args.list (search rules)
 
-returns-2 : tie.Need-returns-2
+returns_2 : tie.Need-returns-else-list-le28
 unfolding any
-returns-2 c = rw (none_above c.before.args.list c.if1.false, lt-leb _ _ c.if1.false)
+returns_2 c = rw (none_above c.args.list c.if-list-le28.false, lt-leb _ _ c.if-list-le28.false)
 
-pub lists-memory-spec : {M : Type 1} → statement M
-lists-memory-spec = tie.close (tie.spec shr-result returns returns-2)
+pub lists_memory_spec : {M : Type 1} → statement M
+lists_memory_spec = tie.close (tie.spec shr_result returns returns_2)

@@ -3,11 +3,11 @@ use borrow.Author.Tests.{lt-ltb, le-ltb}
 use Rattle.laws.proofs.lacks_room.Statement.{statement}
 use Rattle.laws.proofs.lacks_room.Tie as tie
 
-returns : tie.Need-returns
-returns c = rw (lt-ltb _ _ c.if1.true)
+returns : tie.Need-returns-then-end-start
+returns c = rw (lt-ltb _ _ c.if-end-start.true)
 
-returns-2 : tie.Need-returns-2
-returns-2 c = rw (le-ltb _ _ c.if1.false)
+returns_2 : tie.Need-returns-else-end-start
+returns_2 c = rw (le-ltb _ _ c.if-end-start.false)
 
-pub lacks-room-spec : {M : Type 1} → statement M
-lacks-room-spec = tie.close (tie.spec returns returns-2)
+pub lacks_room_spec : {M : Type 1} → statement M
+lacks_room_spec = tie.close (tie.spec returns returns_2)

@@ -8,48 +8,48 @@ use borrow.Author.Rules.{rules}
 use Rattle.laws.proofs.put_u64.Statement.{statement}
 use Rattle.laws.proofs.put_u64.Tie as tie
 
-cast-put-u32 : tie.Need-overflow-cast-put-u32
-cast-put-u32 c = search rules
+cast_put_u32 : tie.Need-overflow_cast-v
+cast_put_u32 c = search rules
 
-put-u32-requires : tie.Need-put-u32-requires
-put-u32-requires c κs = search rules
+put_u32_requires : tie.Need-put_u32-requires
+put_u32_requires c κs = search rules
 
-sub-put-u32 : tie.Need-overflow-sub-put-u32
-sub-put-u32 c = search rules
+sub_put_u32 : tie.Need-slice_bounds-put_u32-count
+sub_put_u32 c = search rules
 
-part-put-u32-start : tie.Need-slice-bounds-put-u32-start
-part-put-u32-start c = search rules
+part_put_u32_start : tie.Need-slice_bounds-put_u32-start
+part_put_u32_start c = search rules
 
-part-put-u32-end : tie.Need-slice-bounds-put-u32-end
-part-put-u32-end c = search rules
+part_put_u32_end : tie.Need-slice_bounds-put_u32-end
+part_put_u32_end c = search rules
 
-cast-put-u32-2 : tie.Need-overflow-cast-put-u32-2
-cast-put-u32-2 c = search rules
+cast_put_u32_2 : tie.Need-overflow_cast-v-2
+cast_put_u32_2 c = search rules
 
-put-u32-requires-2 : tie.Need-put-u32-requires-2
-put-u32-requires-2 c κs = search rules
+put_u32_requires_2 : tie.Need-put_u32-requires-2
+put_u32_requires_2 c κs = search rules
 
-same_length : tie.Need-same-length
+same_length : tie.Need-shape_of-out
 same_length c = search rules
 
 returns : tie.Need-returns
 returns c =
-    let s = c.before.before.before.before.before.before.before.before.before in
+    let s = c in
     let v = s.args.v in
     rw (← little_pair 4 v)
     (laid (little 4 (v % 256 ^ 4)) (little 4 (v / 256 ^ 4)) s.args.out.now 4 (little_length 4 (v % 256 ^ 4))
-    c.before.before.before.before.before.before.put-u32.ensures c.before.before.put-u322.ensures)
+    c.put_u32.ensures c.put_u32-2.ensures)
 
-pub put-u64-spec : {M : Type 1} → statement M
-put-u64-spec =
+pub put_u64_spec : {M : Type 1} → statement M
+put_u64_spec =
     tie.close
     (tie.spec
-    cast-put-u32
-    put-u32-requires
-    sub-put-u32
-    part-put-u32-start
-    part-put-u32-end
-    cast-put-u32-2
-    put-u32-requires-2
+    cast_put_u32
+    put_u32_requires
+    sub_put_u32
+    part_put_u32_start
+    part_put_u32_end
+    cast_put_u32_2
+    put_u32_requires_2
     same_length
     returns)

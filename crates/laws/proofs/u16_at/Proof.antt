@@ -5,40 +5,40 @@ use borrow.Author.Rules.{rules}
 use Rattle.laws.proofs.u16_at.Statement.{statement}
 use Rattle.laws.proofs.u16_at.Tie as tie
 
-shared-slice-read-wide : tie.Need-shared-slice-read-wide
-shared-slice-read-wide c = search rules
+shared_slice_read_wide : tie.Need-bounds-b-i
+shared_slice_read_wide c = search rules
 
-wide-requires : tie.Need-wide-requires
-wide-requires c κs = search rules
+wide_requires : tie.Need-wide-requires
+wide_requires c κs = search rules
 
-add_wide : tie.Need-overflow-add-wide
+add_wide : tie.Need-overflow_add-i
 add_wide c = search rules
 
-shared-slice-read-wide-2 : tie.Need-shared-slice-read-wide-2
-shared-slice-read-wide-2 c = search rules
+shared_slice_read_wide_2 : tie.Need-bounds-b-i-2
+shared_slice_read_wide_2 c = search rules
 
-wide-requires-2 : tie.Need-wide-requires-2
-wide-requires-2 c κs = search rules
+wide_requires_2 : tie.Need-wide-requires-2
+wide_requires_2 c κs = search rules
 
-mul-result : tie.Need-overflow-mul-result
-mul-result c = search rules
+mul_result : tie.Need-overflow_mul-result
+mul_result c = search rules
 
-add-result : tie.Need-overflow-add-result
-add-result c = search rules
+add_result : tie.Need-overflow_add-result
+add_result c = search rules
 
 returns : tie.Need-returns
 unfolding number_at
 returns c = omega arith
 
-pub u16-at-spec : {M : Type 1} → statement M
-u16-at-spec =
+pub u16_at_spec : {M : Type 1} → statement M
+u16_at_spec =
     tie.close
     (tie.spec
-    shared-slice-read-wide
-    wide-requires
+    shared_slice_read_wide
+    wide_requires
     add_wide
-    shared-slice-read-wide-2
-    wide-requires-2
-    mul-result
-    add-result
+    shared_slice_read_wide_2
+    wide_requires_2
+    mul_result
+    add_result
     returns)

@@ -4,39 +4,39 @@ use borrow.Author.Rules.{rules}
 use Rattle.laws.proofs.u32_at.Statement.{statement}
 use Rattle.laws.proofs.u32_at.Tie as tie
 
-u16-at-requires : tie.Need-u16-at-requires
-u16-at-requires c κs = search rules
+u16_at_requires : tie.Need-u16_at-requires
+u16_at_requires c κs = search rules
 
-cast-result : tie.Need-overflow-cast-result
-cast-result c = search rules
+cast_result : tie.Need-overflow_cast-result
+cast_result c = search rules
 
-add-u16-at : tie.Need-overflow-add-u16-at
-add-u16-at c = search rules
+add_u16_at : tie.Need-overflow_add-i
+add_u16_at c = search rules
 
-u16-at-requires-2 : tie.Need-u16-at-requires-2
-u16-at-requires-2 c κs = search rules
+u16_at_requires_2 : tie.Need-u16_at-requires-2
+u16_at_requires_2 c κs = search rules
 
-cast-result-2 : tie.Need-overflow-cast-result-2
-cast-result-2 c = search rules
+cast_result_2 : tie.Need-overflow_cast-result-2
+cast_result_2 c = search rules
 
-mul-result : tie.Need-overflow-mul-result
-mul-result c = search rules
+mul_result : tie.Need-overflow_mul-result
+mul_result c = search rules
 
-add-result : tie.Need-overflow-add-result
-add-result c = search rules
+add_result : tie.Need-overflow_add-result
+add_result c = search rules
 
 returns : tie.Need-returns
-returns c = number_pair _ _ 2 c.before.u16-at.ensures c.u16-at2.ensures
+returns c = number_pair _ _ 2 c.u16_at.ensures c.u16_at-2.ensures
 
-pub u32-at-spec : {M : Type 1} → statement M
-u32-at-spec =
+pub u32_at_spec : {M : Type 1} → statement M
+u32_at_spec =
     tie.close
     (tie.spec
-    u16-at-requires
-    cast-result
-    add-u16-at
-    u16-at-requires-2
-    cast-result-2
-    mul-result
-    add-result
+    u16_at_requires
+    cast_result
+    add_u16_at
+    u16_at_requires_2
+    cast_result_2
+    mul_result
+    add_result
     returns)

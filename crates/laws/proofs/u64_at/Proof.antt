@@ -4,39 +4,39 @@ use borrow.Author.Rules.{rules}
 use Rattle.laws.proofs.u64_at.Statement.{statement}
 use Rattle.laws.proofs.u64_at.Tie as tie
 
-u32-at-requires : tie.Need-u32-at-requires
-u32-at-requires c κs = search rules
+u32_at_requires : tie.Need-u32_at-requires
+u32_at_requires c κs = search rules
 
-cast-result : tie.Need-overflow-cast-result
-cast-result c = search rules
+cast_result : tie.Need-overflow_cast-result
+cast_result c = search rules
 
-add-u32-at : tie.Need-overflow-add-u32-at
-add-u32-at c = search rules
+add_u32_at : tie.Need-overflow_add-i
+add_u32_at c = search rules
 
-u32-at-requires-2 : tie.Need-u32-at-requires-2
-u32-at-requires-2 c κs = search rules
+u32_at_requires_2 : tie.Need-u32_at-requires-2
+u32_at_requires_2 c κs = search rules
 
-cast-result-2 : tie.Need-overflow-cast-result-2
-cast-result-2 c = search rules
+cast_result_2 : tie.Need-overflow_cast-result-2
+cast_result_2 c = search rules
 
-mul-result : tie.Need-overflow-mul-result
-mul-result c = search rules
+mul_result : tie.Need-overflow_mul-result
+mul_result c = search rules
 
-add-result : tie.Need-overflow-add-result
-add-result c = search rules
+add_result : tie.Need-overflow_add-result
+add_result c = search rules
 
 returns : tie.Need-returns
-returns c = number_pair _ _ 4 c.before.u32-at.ensures c.u32-at2.ensures
+returns c = number_pair _ _ 4 c.u32_at.ensures c.u32_at-2.ensures
 
-pub u64-at-spec : {M : Type 1} → statement M
-u64-at-spec =
+pub u64_at_spec : {M : Type 1} → statement M
+u64_at_spec =
     tie.close
     (tie.spec
-    u32-at-requires
-    cast-result
-    add-u32-at
-    u32-at-requires-2
-    cast-result-2
-    mul-result
-    add-result
+    u32_at_requires
+    cast_result
+    add_u32_at
+    u32_at_requires_2
+    cast_result_2
+    mul_result
+    add_result
     returns)

@@ -6,39 +6,39 @@ use Rattle.record.proofs.Laws.{listed_digest, own_digest}
 use Rattle.record.proofs.digest_in.Statement.{statement}
 use Rattle.record.proofs.digest_in.Tie as tie
 
-shared-slice-read-if1 : tie.Need-shared-slice-read-if1
-shared-slice-read-if1 c = search rules
+shared_slice_read_if1 : tie.Need-bounds-b-0
+shared_slice_read_if1 c = search rules
 
-u16-at-requires : tie.Need-u16-at-requires
-u16-at-requires c κs = search rules
+u16_at_requires : tie.Need-u16_at-requires
+u16_at_requires c κs = search rules
 
-everyday-digest-requires : tie.Need-everyday-digest-requires
-everyday-digest-requires c κs = search rules
+everyday_digest_requires : tie.Need-everyday_digest-requires
+everyday_digest_requires c κs = search rules
 
-returns : tie.Need-returns
-returns c = rw (listed_digest c.before.before.before.before.before.args.b.now c.before.before.if1.true, ← c.before.u16-at.ensures) c.everyday-digest.ensures
+returns : tie.Need-returns-then-b-eq-EVERYDAY_KIND
+returns c = rw (listed_digest c.args.b.now c.if-b-eq-EVERYDAY_KIND.true, ← c.u16_at.ensures) c.everyday_digest.ensures
 
-shared-slice-read-t3 : tie.Need-shared-slice-read-t3
-shared-slice-read-t3 c = omega (arith, c.before.before.before.before.requires.1 c.before.if1.false)
+shared_slice_read_t3 : tie.Need-bounds-b-36
+shared_slice_read_t3 c = omega (arith, c.requires.1 c.if-b-eq-EVERYDAY_KIND.false)
 
-shared-slice-read-t8 : tie.Need-shared-slice-read-t8
-shared-slice-read-t8 c = omega (arith, c.before.before.before.before.before.requires.1 c.before.before.if1.false)
+shared_slice_read_t8 : tie.Need-bounds-b-37
+shared_slice_read_t8 c = omega (arith, c.requires.1 c.if-b-eq-EVERYDAY_KIND.false)
 
-u16-at-requires-2 : tie.Need-u16-at-requires-2
-u16-at-requires-2 c κs = omega (arith, c.before.before.before.before.before.requires.1 c.before.before.if1.false)
+u16_at_requires_2 : tie.Need-u16_at-requires-2
+u16_at_requires_2 c κs = omega (arith, c.requires.1 c.if-b-eq-EVERYDAY_KIND.false)
 
-returns-2 : tie.Need-returns-2
-returns-2 c = rw (own_digest c.before.before.before.before.before.before.args.b.now c.before.before.before.if1.false, c.u16-at2.ensures)
+returns_2 : tie.Need-returns
+returns_2 c = rw (own_digest c.args.b.now c.if-b-eq-EVERYDAY_KIND.false, c.u16_at-2.ensures)
 
-pub digest-in-spec : {M : Type 1} → statement M
-digest-in-spec =
+pub digest_in_spec : {M : Type 1} → statement M
+digest_in_spec =
     tie.close
     (tie.spec
-    shared-slice-read-if1
-    u16-at-requires
-    everyday-digest-requires
+    shared_slice_read_if1
+    u16_at_requires
+    everyday_digest_requires
     returns
-    shared-slice-read-t3
-    shared-slice-read-t8
-    u16-at-requires-2
-    returns-2)
+    shared_slice_read_t3
+    shared_slice_read_t8
+    u16_at_requires_2
+    returns_2)

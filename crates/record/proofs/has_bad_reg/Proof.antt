@@ -6,75 +6,75 @@ use borrow.Author.Rules.{rules}
 use Rattle.record.proofs.has_bad_reg.Statement.{statement}
 use Rattle.record.proofs.has_bad_reg.Tie as tie
 
-shared-slice-read-is-bad : tie.Need-shared-slice-read-is-bad
-shared-slice-read-is-bad c = search rules
+shared_slice_read_is_bad : tie.Need-bounds-b-8
+shared_slice_read_is_bad c = search rules
 
-shared-slice-read-is-bad-2 : tie.Need-shared-slice-read-is-bad-2
-shared-slice-read-is-bad-2 c = search rules
+shared_slice_read_is_bad_2 : tie.Need-bounds-b-9
+shared_slice_read_is_bad_2 c = search rules
 
-is-bad-requires : tie.Need-is-bad-requires
-is-bad-requires c κs = search rules
+is_bad_requires : tie.Need-is_bad-requires
+is_bad_requires c κs = search rules
 
-returns : tie.Need-returns
+returns : tie.Need-returns-then-is_bad
 unfolding any record_of
-returns c = rw (sym c.before.is-bad.ensures ∙ c.if1.true)
+returns c = rw (sym c.is_bad.ensures ∙ c.if-is_bad.true)
 
-shared-slice-read-is-bad-3 : tie.Need-shared-slice-read-is-bad-3
-shared-slice-read-is-bad-3 c = search rules
+shared_slice_read_is_bad_3 : tie.Need-bounds-b-10
+shared_slice_read_is_bad_3 c = search rules
 
-shared-slice-read-is-bad-4 : tie.Need-shared-slice-read-is-bad-4
-shared-slice-read-is-bad-4 c = search rules
+shared_slice_read_is_bad_4 : tie.Need-bounds-b-11
+shared_slice_read_is_bad_4 c = search rules
 
-is-bad-requires-2 : tie.Need-is-bad-requires-2
-is-bad-requires-2 c κs = search rules
+is_bad_requires_2 : tie.Need-is_bad-requires-2
+is_bad_requires_2 c κs = search rules
 
-returns-2 : tie.Need-returns-2
+returns_2 : tie.Need-returns-then-is_bad-2
 unfolding any record_of
-returns-2 c = rw (sym c.before.before.before.before.before.is-bad.ensures ∙ c.before.before.before.before.if1.false, sym c.before.is-bad2.ensures ∙ c.if2.true)
+returns_2 c = rw (sym c.is_bad.ensures ∙ c.if-is_bad.false, sym c.is_bad-2.ensures ∙ c.if-is_bad-2.true)
 
-shared-slice-read-is-bad-5 : tie.Need-shared-slice-read-is-bad-5
-shared-slice-read-is-bad-5 c = search rules
+shared_slice_read_is_bad_5 : tie.Need-bounds-b-12
+shared_slice_read_is_bad_5 c = search rules
 
-shared-slice-read-is-bad-6 : tie.Need-shared-slice-read-is-bad-6
-shared-slice-read-is-bad-6 c = search rules
+shared_slice_read_is_bad_6 : tie.Need-bounds-b-13
+shared_slice_read_is_bad_6 c = search rules
 
-is-bad-requires-3 : tie.Need-is-bad-requires-3
-is-bad-requires-3 c κs = search rules
+is_bad_requires_3 : tie.Need-is_bad-requires-3
+is_bad_requires_3 c κs = search rules
 
-returns-3 : tie.Need-returns-3
+returns_3 : tie.Need-returns-then-is_bad-3
 unfolding any record_of
-returns-3 c = rw (sym c.before.before.before.before.before.before.before.before.before.is-bad.ensures ∙ c.before.before.before.before.before.before.before.before.if1.false, sym c.before.before.before.before.before.is-bad2.ensures ∙ c.before.before.before.before.if2.false, sym c.before.is-bad3.ensures ∙ c.if3.true)
+returns_3 c = rw (sym c.is_bad.ensures ∙ c.if-is_bad.false, sym c.is_bad-2.ensures ∙ c.if-is_bad-2.false, sym c.is_bad-3.ensures ∙ c.if-is_bad-3.true)
 
-shared-slice-read-is-bad-7 : tie.Need-shared-slice-read-is-bad-7
-shared-slice-read-is-bad-7 c = search rules
+shared_slice_read_is_bad_7 : tie.Need-bounds-b-14
+shared_slice_read_is_bad_7 c = search rules
 
-shared-slice-read-is-bad-8 : tie.Need-shared-slice-read-is-bad-8
-shared-slice-read-is-bad-8 c = search rules
+shared_slice_read_is_bad_8 : tie.Need-bounds-b-15
+shared_slice_read_is_bad_8 c = search rules
 
-is-bad-requires-4 : tie.Need-is-bad-requires-4
-is-bad-requires-4 c κs = search rules
+is_bad_requires_4 : tie.Need-is_bad-requires-4
+is_bad_requires_4 c κs = search rules
 
-returns-4 : tie.Need-returns-4
+returns_4 : tie.Need-returns
 unfolding any record_of
-returns-4 c = rw (sym c.before.before.before.before.before.before.before.before.before.before.before.before.is-bad.ensures ∙ c.before.before.before.before.before.before.before.before.before.before.before.if1.false, sym c.before.before.before.before.before.before.before.before.is-bad2.ensures ∙ c.before.before.before.before.before.before.before.if2.false, sym c.before.before.before.before.is-bad3.ensures ∙ c.before.before.before.if3.false, c.is-bad4.ensures) (simp or-false)
+returns_4 c = rw (sym c.is_bad.ensures ∙ c.if-is_bad.false, sym c.is_bad-2.ensures ∙ c.if-is_bad-2.false, sym c.is_bad-3.ensures ∙ c.if-is_bad-3.false, c.is_bad-4.ensures) (simp or-false)
 
-pub has-bad-reg-spec : {M : Type 1} → statement M
-has-bad-reg-spec =
+pub has_bad_reg_spec : {M : Type 1} → statement M
+has_bad_reg_spec =
     tie.close
     (tie.spec
-    shared-slice-read-is-bad
-    shared-slice-read-is-bad-2
-    is-bad-requires
+    shared_slice_read_is_bad
+    shared_slice_read_is_bad_2
+    is_bad_requires
     returns
-    shared-slice-read-is-bad-3
-    shared-slice-read-is-bad-4
-    is-bad-requires-2
-    returns-2
-    shared-slice-read-is-bad-5
-    shared-slice-read-is-bad-6
-    is-bad-requires-3
-    returns-3
-    shared-slice-read-is-bad-7
-    shared-slice-read-is-bad-8
-    is-bad-requires-4
-    returns-4)
+    shared_slice_read_is_bad_3
+    shared_slice_read_is_bad_4
+    is_bad_requires_2
+    returns_2
+    shared_slice_read_is_bad_5
+    shared_slice_read_is_bad_6
+    is_bad_requires_3
+    returns_3
+    shared_slice_read_is_bad_7
+    shared_slice_read_is_bad_8
+    is_bad_requires_4
+    returns_4)

@@ -6,43 +6,43 @@ use borrow.Author.Rules.{rules}
 use Rattle.record.proofs.has_bad_spec.Statement.{statement}
 use Rattle.record.proofs.has_bad_spec.Tie as tie
 
-shared-slice-read-if1 : tie.Need-shared-slice-read-if1
-shared-slice-read-if1 c = search rules
+shared_slice_read_if1 : tie.Need-bounds-b-4
+shared_slice_read_if1 c = search rules
 
-returns : tie.Need-returns
+returns : tie.Need-returns-then-b-gt35
 unfolding any record_of
-returns c = rw (lt-ltb _ _ c.if1.true)
+returns c = rw (lt-ltb _ _ c.if-b-gt35.true)
 
-shared-slice-read-if2 : tie.Need-shared-slice-read-if2
-shared-slice-read-if2 c = search rules
+shared_slice_read_if2 : tie.Need-bounds-b-5
+shared_slice_read_if2 c = search rules
 
-returns-2 : tie.Need-returns-2
+returns_2 : tie.Need-returns-then-b-gt35-2
 unfolding any record_of
-returns-2 c = rw (le-ltb _ _ c.before.before.if1.false, lt-ltb _ _ c.if2.true)
+returns_2 c = rw (le-ltb _ _ c.if-b-gt35.false, lt-ltb _ _ c.if-b-gt35-2.true)
 
-shared-slice-read-if3 : tie.Need-shared-slice-read-if3
-shared-slice-read-if3 c = search rules
+shared_slice_read_if3 : tie.Need-bounds-b-6
+shared_slice_read_if3 c = search rules
 
-returns-3 : tie.Need-returns-3
+returns_3 : tie.Need-returns-then-b-gt35-3
 unfolding any record_of
-returns-3 c = rw (le-ltb _ _ c.before.before.before.before.if1.false, le-ltb _ _ c.before.before.if2.false, lt-ltb _ _ c.if3.true)
+returns_3 c = rw (le-ltb _ _ c.if-b-gt35.false, le-ltb _ _ c.if-b-gt35-2.false, lt-ltb _ _ c.if-b-gt35-3.true)
 
-shared-slice-read-result : tie.Need-shared-slice-read-result
-shared-slice-read-result c = search rules
+shared_slice_read_result : tie.Need-bounds-b-7
+shared_slice_read_result c = search rules
 
-returns-4 : tie.Need-returns-4
+returns_4 : tie.Need-returns
 unfolding any record_of
-returns-4 c = rw (le-ltb _ _ c.before.before.before.before.before.if1.false, le-ltb _ _ c.before.before.before.if2.false, le-ltb _ _ c.before.if3.false) (simp or-false)
+returns_4 c = rw (le-ltb _ _ c.if-b-gt35.false, le-ltb _ _ c.if-b-gt35-2.false, le-ltb _ _ c.if-b-gt35-3.false) (simp or-false)
 
-pub has-bad-spec-spec : {M : Type 1} → statement M
-has-bad-spec-spec =
+pub has_bad_spec_spec : {M : Type 1} → statement M
+has_bad_spec_spec =
     tie.close
     (tie.spec
-    shared-slice-read-if1
+    shared_slice_read_if1
     returns
-    shared-slice-read-if2
-    returns-2
-    shared-slice-read-if3
-    returns-3
-    shared-slice-read-result
-    returns-4)
+    shared_slice_read_if2
+    returns_2
+    shared_slice_read_if3
+    returns_3
+    shared_slice_read_result
+    returns_4)

@@ -4,22 +4,22 @@ use Rattle.record.proofs.Laws.{listed_lacks, own_lacks}
 use Rattle.record.proofs.lacks_digest.Statement.{statement}
 use Rattle.record.proofs.lacks_digest.Tie as tie
 
-shared-slice-read-if1 : tie.Need-shared-slice-read-if1
-shared-slice-read-if1 c = search rules
+shared_slice_read_if1 : tie.Need-bounds-b-0
+shared_slice_read_if1 c = search rules
 
-u16-at-requires : tie.Need-u16-at-requires
-u16-at-requires c κs = search rules
+u16_at_requires : tie.Need-u16_at-requires
+u16_at_requires c κs = search rules
 
-is-everyday-requires : tie.Need-is-everyday-requires
-is-everyday-requires c κs = search rules
+is_everyday_requires : tie.Need-is_everyday-requires
+is_everyday_requires c κs = search rules
 
-returns : tie.Need-returns
-returns c = rw (c.is-everyday.ensures, c.before.u16-at.ensures) (listed_lacks c.before.before.before.before.before.args.b.now c.before.before.if1.true)
+returns : tie.Need-returns-then-b-eq-EVERYDAY_KIND
+returns c = rw (c.is_everyday.ensures, c.u16_at.ensures) (listed_lacks c.args.b.now c.if-b-eq-EVERYDAY_KIND.true)
 
-returns-2 : tie.Need-returns-2
-returns-2 c = rw (ne_eqb _ _ c.if1.false) (own_lacks c.before.before.before.args.b.now c.if1.false)
+returns_2 : tie.Need-returns-else-b-eq-EVERYDAY_KIND
+returns_2 c = rw (ne_eqb _ _ c.if-b-eq-EVERYDAY_KIND.false) (own_lacks c.args.b.now c.if-b-eq-EVERYDAY_KIND.false)
 
-pub lacks-digest-spec : {M : Type 1} → statement M
-lacks-digest-spec =
+pub lacks_digest_spec : {M : Type 1} → statement M
+lacks_digest_spec =
     tie.close
-    (tie.spec shared-slice-read-if1 u16-at-requires is-everyday-requires returns returns-2)
+    (tie.spec shared_slice_read_if1 u16_at_requires is_everyday_requires returns returns_2)

@@ -3,21 +3,21 @@ use Rattle.record.specs.Records.{record_length}
 use Rattle.record.proofs.length_of.Statement.{statement}
 use Rattle.record.proofs.length_of.Tie as tie
 
-returns : tie.Need-returns
+returns : tie.Need-returns-then-kind-eq-RECORD_KIND
 unfolding record_length
-returns c = rw (eq-eqb _ _ c.if1.true)
+returns c = rw (eq-eqb _ _ c.if-kind-eq-RECORD_KIND.true)
 
-returns-2 : tie.Need-returns-2
+returns_2 : tie.Need-returns-then-kind-eq-SEGMENT_KIND
 unfolding record_length
-returns-2 c = rw (ne_eqb _ _ c.before.if1.false, eq-eqb _ _ c.if2.true)
+returns_2 c = rw (ne_eqb _ _ c.if-kind-eq-RECORD_KIND.false, eq-eqb _ _ c.if-kind-eq-SEGMENT_KIND.true)
 
-returns-3 : tie.Need-returns-3
+returns_3 : tie.Need-returns-then-kind-eq-EVERYDAY_KIND
 unfolding record_length
-returns-3 c = rw (ne_eqb _ _ c.before.before.if1.false, ne_eqb _ _ c.before.if2.false, eq-eqb _ _ c.if3.true)
+returns_3 c = rw (ne_eqb _ _ c.if-kind-eq-RECORD_KIND.false, ne_eqb _ _ c.if-kind-eq-SEGMENT_KIND.false, eq-eqb _ _ c.if-kind-eq-EVERYDAY_KIND.true)
 
-returns-4 : tie.Need-returns-4
+returns_4 : tie.Need-returns-else-kind-eq-EVERYDAY_KIND
 unfolding record_length
-returns-4 c = rw (ne_eqb _ _ c.before.before.if1.false, ne_eqb _ _ c.before.if2.false, ne_eqb _ _ c.if3.false)
+returns_4 c = rw (ne_eqb _ _ c.if-kind-eq-RECORD_KIND.false, ne_eqb _ _ c.if-kind-eq-SEGMENT_KIND.false, ne_eqb _ _ c.if-kind-eq-EVERYDAY_KIND.false)
 
-pub length-of-spec : {M : Type 1} → statement M
-length-of-spec = tie.close (tie.spec returns returns-2 returns-3 returns-4)
+pub length_of_spec : {M : Type 1} → statement M
+length_of_spec = tie.close (tie.spec returns returns_2 returns_3 returns_4)

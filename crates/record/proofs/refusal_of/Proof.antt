@@ -4,43 +4,43 @@ use borrow.Author.Rules.{rules}
 use Rattle.record.proofs.refusal_of.Statement.{statement}
 use Rattle.record.proofs.refusal_of.Tie as tie
 
-returns : tie.Need-returns
-returns c = refused_empty c.before.before.args.b.now c.if1.true
+returns : tie.Need-returns-then-b-eq0
+returns c = refused_empty c.args.b.now c.if-b-eq0.true
 
-shared-slice-read-length-of : tie.Need-shared-slice-read-length-of
-shared-slice-read-length-of c = search rules
+shared_slice_read_length_of : tie.Need-bounds-b-0
+shared_slice_read_length_of c = search rules
 
-length-of-requires : tie.Need-length-of-requires
-length-of-requires c κs = search rules
+length_of_requires : tie.Need-length_of-requires
+length_of_requires c κs = search rules
 
-returns-2 : tie.Need-returns-2
-returns-2 c = refused_length c.before.before.before.before.before.args.b.now c.before.before.before.if1.false c.before.length-of.ensures c.if2.true
+returns_2 : tie.Need-returns-then-b-length_of
+returns_2 c = refused_length c.args.b.now c.if-b-eq0.false c.length_of.ensures c.if-b-length_of.true
 
-is-outside-requires : tie.Need-is-outside-requires
-is-outside-requires c κs = has_fields c.before.before.before.before.before.args.b.now c.before.before.before.if1.false c.before.length-of.ensures c.if2.false
+is_outside_requires : tie.Need-is_outside-requires
+is_outside_requires c κs = has_fields c.args.b.now c.if-b-eq0.false c.length_of.ensures c.if-b-length_of.false
 
-returns-3 : tie.Need-returns-3
-returns-3 c = refused_fields c.before.before.before.before.before.before.before.args.b.now c.before.before.before.before.before.if1.false c.before.before.before.length-of.ensures c.before.before.if2.false (sym c.if3.true ∙ c.before.is-outside.ensures)
+returns_3 : tie.Need-returns-then-is_outside
+returns_3 c = refused_fields c.args.b.now c.if-b-eq0.false c.length_of.ensures c.if-b-length_of.false (sym c.if-is_outside.true ∙ c.is_outside.ensures)
 
-lacks-digest-requires : tie.Need-lacks-digest-requires
-lacks-digest-requires c κs = (has_fields c.before.before.before.before.before.before.before.args.b.now c.before.before.before.before.before.if1.false c.before.before.before.length-of.ensures c.before.before.if2.false).0
+lacks_digest_requires : tie.Need-lacks_digest-requires
+lacks_digest_requires c κs = (has_fields c.args.b.now c.if-b-eq0.false c.length_of.ensures c.if-b-length_of.false).0
 
-returns-4 : tie.Need-returns-4
-returns-4 c = by_fields c.before.before.before.before.before.before.before.before.before.args.b.now c.before.before.before.before.before.before.before.if1.false c.before.before.before.before.before.length-of.ensures c.before.before.before.before.if2.false (sym c.before.before.if3.false ∙ c.before.before.before.is-outside.ensures) (sym c.if4.true ∙ c.before.lacks-digest.ensures)
+returns_4 : tie.Need-returns-then-lacks_digest
+returns_4 c = by_fields c.args.b.now c.if-b-eq0.false c.length_of.ensures c.if-b-length_of.false (sym c.if-is_outside.false ∙ c.is_outside.ensures) (sym c.if-lacks_digest.true ∙ c.lacks_digest.ensures)
 
-returns-5 : tie.Need-returns-5
-returns-5 c = by_fields c.before.before.before.before.before.before.before.before.before.args.b.now c.before.before.before.before.before.before.before.if1.false c.before.before.before.before.before.length-of.ensures c.before.before.before.before.if2.false (sym c.before.before.if3.false ∙ c.before.before.before.is-outside.ensures) (sym c.if4.false ∙ c.before.lacks-digest.ensures)
+returns_5 : tie.Need-returns
+returns_5 c = by_fields c.args.b.now c.if-b-eq0.false c.length_of.ensures c.if-b-length_of.false (sym c.if-is_outside.false ∙ c.is_outside.ensures) (sym c.if-lacks_digest.false ∙ c.lacks_digest.ensures)
 
-pub refusal-of-spec : {M : Type 1} → statement M
-refusal-of-spec =
+pub refusal_of_spec : {M : Type 1} → statement M
+refusal_of_spec =
     tie.close
     (tie.spec
     returns
-    shared-slice-read-length-of
-    length-of-requires
-    returns-2
-    is-outside-requires
-    returns-3
-    lacks-digest-requires
-    returns-4
-    returns-5)
+    shared_slice_read_length_of
+    length_of_requires
+    returns_2
+    is_outside_requires
+    returns_3
+    lacks_digest_requires
+    returns_4
+    returns_5)

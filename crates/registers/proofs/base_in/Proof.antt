@@ -6,43 +6,43 @@ use borrow.Author.Rules.{rules}
 use Rattle.registers.proofs.base_in.Statement.{statement}
 use Rattle.registers.proofs.base_in.Tie as tie
 
-is-set-requires : tie.Need-is-set-requires
-is-set-requires c κs = search rules
+is_set_requires : tie.Need-is_set-set-requires
+is_set_requires c κs = search rules
 
-element-copy-out-known-if : tie.Need-element-copy-out-known-if
-element-copy-out-known-if c = search rules
+element_copy_out_known_if : tie.Need-bounds-values-17
+element_copy_out_known_if c = search rules
 
-known-if-requires : tie.Need-known-if-requires
-known-if-requires c κs = search rules
+known_if_requires : tie.Need-known_if-requires
+known_if_requires c κs = search rules
 
-returns : tie.Need-returns
-returns c = rw c.before.before.before.if1.true (c.known-if.ensures.0 ∙ base_told (file_with c.before.before.before.before.args.values.now c.before.before.before.before.args.known) 0 (lit≤ tt) c.before.before.is_set.ensures refl c.known-if.ensures.1)
+returns : tie.Need-returns-then-number-eq0
+returns c = rw c.if-number-eq0.true (c.known_if.ensures.0 ∙ base_told (file_with c.args.values.now c.args.known) 0 (lit≤ tt) c.is_set-set.ensures refl c.known_if.ensures.1)
 
-is-set-requires-2 : tie.Need-is-set-requires-2
-is-set-requires-2 c κs = search rules
+is_set_requires_2 : tie.Need-is_set-set-requires-then-number-eq1
+is_set_requires_2 c κs = search rules
 
-element-copy-out-known-if-2 : tie.Need-element-copy-out-known-if-2
-element-copy-out-known-if-2 c = search rules
+element_copy_out_known_if_2 : tie.Need-bounds-values-18
+element_copy_out_known_if_2 c = search rules
 
-known-if-requires-2 : tie.Need-known-if-requires-2
-known-if-requires-2 c κs = search rules
+known_if_requires_2 : tie.Need-known_if-requires-then-number-eq1
+known_if_requires_2 c κs = search rules
 
-returns-2 : tie.Need-returns-2
-returns-2 c = rw c.before.before.before.if2.true (c.known-if2.ensures.0 ∙ base_told (file_with c.before.before.before.before.before.args.values.now c.before.before.before.before.before.args.known) 1 (lit≤ tt) c.before.before.is-set2.ensures refl c.known-if2.ensures.1)
+returns_2 : tie.Need-returns-then-number-eq1
+returns_2 c = rw c.if-number-eq1.true (c.known_if-then-number-eq1.ensures.0 ∙ base_told (file_with c.args.values.now c.args.known) 1 (lit≤ tt) c.is_set-set-then-number-eq1.ensures refl c.known_if-then-number-eq1.ensures.1)
 
-returns-3 : tie.Need-returns-3
-returns-3 c = base_untold (file_with c.before.before.args.values.now c.before.before.args.known) c.before.before.args.number c.before.if1.false c.if2.false
+returns_3 : tie.Need-returns
+returns_3 c = base_untold (file_with c.args.values.now c.args.known) c.args.number c.if-number-eq0.false c.if-number-eq1.false
 
-pub base-in-spec : {M : Type 1} → statement M
-base-in-spec =
+pub base_in_spec : {M : Type 1} → statement M
+base_in_spec =
     tie.close
     (tie.spec
-    is-set-requires
-    element-copy-out-known-if
-    known-if-requires
+    is_set_requires
+    element_copy_out_known_if
+    known_if_requires
     returns
-    is-set-requires-2
-    element-copy-out-known-if-2
-    known-if-requires-2
-    returns-2
-    returns-3)
+    is_set_requires_2
+    element_copy_out_known_if_2
+    known_if_requires_2
+    returns_2
+    returns_3)

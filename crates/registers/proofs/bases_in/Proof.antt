@@ -3,20 +3,20 @@ use borrow.Author.Rules.{rules}
 use Rattle.registers.proofs.bases_in.Statement.{statement}
 use Rattle.registers.proofs.bases_in.Tie as tie
 
-u64-at-requires : tie.Need-u64-at-requires
-u64-at-requires c κs = search rules
+u64_at_requires : tie.Need-u64_at-requires
+u64_at_requires c κs = search rules
 
-add-u64-at : tie.Need-overflow-add-u64-at
-add-u64-at c = search rules
+add_u64_at : tie.Need-overflow_add-u64_at
+add_u64_at c = search rules
 
-u64-at-requires-2 : tie.Need-u64-at-requires-2
-u64-at-requires-2 c κs = search rules
+u64_at_requires_2 : tie.Need-u64_at-requires-then-b-eq-BASED_BYTES
+u64_at_requires_2 c κs = search rules
 
-returns : tie.Need-returns
+returns : tie.Need-returns-then-b-eq-BASED_BYTES
 returns c = search rules
 
-returns-2 : tie.Need-returns-2
-returns-2 c = no_base c.before.before.args.b.now c.before.before.requires c.if1.false
+returns_2 : tie.Need-returns
+returns_2 c = no_base c.args.b.now c.requires c.if-b-eq-BASED_BYTES.false
 
-pub bases-in-spec : {M : Type 1} → statement M
-bases-in-spec = tie.close (tie.spec u64-at-requires add-u64-at u64-at-requires-2 returns returns-2)
+pub bases_in_spec : {M : Type 1} → statement M
+bases_in_spec = tie.close (tie.spec u64_at_requires add_u64_at u64_at_requires_2 returns returns_2)

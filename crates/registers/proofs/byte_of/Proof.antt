@@ -3,13 +3,13 @@ use Rattle.registers.specs.Told.{told_byte}
 use Rattle.registers.proofs.byte_of.Statement.{statement}
 use Rattle.registers.proofs.byte_of.Tie as tie
 
-returns : tie.Need-returns
+returns : tie.Need-returns-then-number-gt3
 unfolding told_byte
-returns c = rw (lt-ltb _ _ c.if1.true)
+returns c = rw (lt-ltb _ _ c.if-number-gt3.true)
 
-returns-2 : tie.Need-returns-2
+returns_2 : tie.Need-returns-else-number-gt3
 unfolding told_byte
-returns-2 c = rw (le-ltb _ _ c.if1.false)
+returns_2 c = rw (le-ltb _ _ c.if-number-gt3.false)
 
-pub byte-of-spec : {M : Type 1} → statement M
-byte-of-spec = tie.close (tie.spec returns returns-2)
+pub byte_of_spec : {M : Type 1} → statement M
+byte_of_spec = tie.close (tie.spec returns returns_2)

@@ -3,17 +3,17 @@ use Rattle.registers.specs.Files.{file_length}
 use Rattle.registers.proofs.length_of.Statement.{statement}
 use Rattle.registers.proofs.length_of.Tie as tie
 
-returns : tie.Need-returns
+returns : tie.Need-returns-then-kind-eq-FILE_KIND
 unfolding file_length
-returns c = rw (eq-eqb _ _ c.if1.true)
+returns c = rw (eq-eqb _ _ c.if-kind-eq-FILE_KIND.true)
 
-returns-2 : tie.Need-returns-2
+returns_2 : tie.Need-returns-then-kind-eq-BASED_KIND
 unfolding file_length
-returns-2 c = rw (ne_eqb _ _ c.before.if1.false, eq-eqb _ _ c.if2.true)
+returns_2 c = rw (ne_eqb _ _ c.if-kind-eq-FILE_KIND.false, eq-eqb _ _ c.if-kind-eq-BASED_KIND.true)
 
-returns-3 : tie.Need-returns-3
+returns_3 : tie.Need-returns-else-kind-eq-BASED_KIND
 unfolding file_length
-returns-3 c = rw (ne_eqb _ _ c.before.if1.false, ne_eqb _ _ c.if2.false)
+returns_3 c = rw (ne_eqb _ _ c.if-kind-eq-FILE_KIND.false, ne_eqb _ _ c.if-kind-eq-BASED_KIND.false)
 
-pub length-of-spec : {M : Type 1} → statement M
-length-of-spec = tie.close (tie.spec returns returns-2 returns-3)
+pub length_of_spec : {M : Type 1} → statement M
+length_of_spec = tie.close (tie.spec returns returns_2 returns_3)

@@ -4,14 +4,14 @@ use borrow.Author.Rules.{rules}
 use Rattle.registers.proofs.logged_numbers.Statement.{statement}
 use Rattle.registers.proofs.logged_numbers.Tie as tie
 
-bank-numbers-requires : tie.Need-bank-numbers-requires
-bank-numbers-requires c κs = search rules
+bank_numbers_requires : tie.Need-bank_numbers-requires
+bank_numbers_requires c κs = search rules
 
-returns : tie.Need-returns
+returns : tie.Need-returns-then-bank-eq13
 returns c = search rules
 
-returns-2 : tie.Need-returns-2
-returns-2 c = c.bank-numbers.ensures ∙ sym (logged_but c.before.before.args.bank c.before.if1.false)
+returns_2 : tie.Need-returns-else-bank-eq13
+returns_2 c = c.bank_numbers.ensures ∙ sym (logged_but c.args.bank c.if-bank-eq13.false)
 
-pub logged-numbers-spec : {M : Type 1} → statement M
-logged-numbers-spec = tie.close (tie.spec bank-numbers-requires returns returns-2)
+pub logged_numbers_spec : {M : Type 1} → statement M
+logged_numbers_spec = tie.close (tie.spec bank_numbers_requires returns returns_2)

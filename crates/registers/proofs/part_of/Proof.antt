@@ -5,33 +5,33 @@ use borrow.Author.Rules.{rules}
 use Rattle.registers.proofs.part_of.Statement.{statement}
 use Rattle.registers.proofs.part_of.Tie as tie
 
-byte-of-requires : tie.Need-byte-of-requires
-byte-of-requires c κs = search rules
+byte_of_requires : tie.Need-byte_of-requires
+byte_of_requires c κs = search rules
 
-returns : tie.Need-returns
+returns : tie.Need-returns-then-x-eq4
 unfolding told_part
-returns c = (rw (eq-eqb _ _ c.before.if1.true) c.byte_of.ensures, omega arith)
+returns c = (rw (eq-eqb _ _ c.if-x-eq4.true) c.byte_of.ensures, omega arith)
 
-returns-2 : tie.Need-returns-2
+returns_2 : tie.Need-returns-then-x-eq3
 unfolding told_part
-returns-2 c = (rw (ne_eqb _ _ c.before.before.if1.false, eq-eqb _ _ c.if2.true), omega arith)
+returns_2 c = (rw (ne_eqb _ _ c.if-x-eq4.false, eq-eqb _ _ c.if-x-eq3.true), omega arith)
 
-returns-3 : tie.Need-returns-3
+returns_3 : tie.Need-returns-then-x-eq2
 unfolding told_part
-returns-3 c = (rw (ne_eqb _ _ c.before.before.before.before.if1.false, ne_eqb _ _ c.before.before.if2.false, eq-eqb _ _ c.if3.true), omega arith)
+returns_3 c = (rw (ne_eqb _ _ c.if-x-eq4.false, ne_eqb _ _ c.if-x-eq3.false, eq-eqb _ _ c.if-x-eq2.true), omega arith)
 
-returns-4 : tie.Need-returns-4
+returns_4 : tie.Need-returns-then-x-eq1
 unfolding told_part
-returns-4 c = (rw (ne_eqb _ _ c.before.before.before.before.before.before.if1.false, ne_eqb _ _ c.before.before.before.before.if2.false, ne_eqb _ _ c.before.before.if3.false, eq-eqb _ _ c.if4.true), omega arith)
+returns_4 c = (rw (ne_eqb _ _ c.if-x-eq4.false, ne_eqb _ _ c.if-x-eq3.false, ne_eqb _ _ c.if-x-eq2.false, eq-eqb _ _ c.if-x-eq1.true), omega arith)
 
-returns-5 : tie.Need-returns-5
+returns_5 : tie.Need-returns-then-x-eq10
 unfolding told_part
-returns-5 c = (rw (ne_eqb _ _ c.before.before.before.before.before.before.before.before.if1.false, ne_eqb _ _ c.before.before.before.before.before.before.if2.false, ne_eqb _ _ c.before.before.before.before.if3.false, ne_eqb _ _ c.before.before.if4.false, eq-eqb _ _ c.if5.true), omega arith)
+returns_5 c = (rw (ne_eqb _ _ c.if-x-eq4.false, ne_eqb _ _ c.if-x-eq3.false, ne_eqb _ _ c.if-x-eq2.false, ne_eqb _ _ c.if-x-eq1.false, eq-eqb _ _ c.if-x-eq10.true), omega arith)
 
-returns-6 : tie.Need-returns-6
+returns_6 : tie.Need-returns-else-x-eq10
 unfolding told_part
-returns-6 c = (rw (ne_eqb _ _ c.before.before.before.before.before.before.before.before.if1.false, ne_eqb _ _ c.before.before.before.before.before.before.if2.false, ne_eqb _ _ c.before.before.before.before.if3.false, ne_eqb _ _ c.before.before.if4.false, ne_eqb _ _ c.if5.false), omega arith)
+returns_6 c = (rw (ne_eqb _ _ c.if-x-eq4.false, ne_eqb _ _ c.if-x-eq3.false, ne_eqb _ _ c.if-x-eq2.false, ne_eqb _ _ c.if-x-eq1.false, ne_eqb _ _ c.if-x-eq10.false), omega arith)
 
-pub part-of-spec : {M : Type 1} → statement M
-part-of-spec =
-    tie.close (tie.spec byte-of-requires returns returns-2 returns-3 returns-4 returns-5 returns-6)
+pub part_of_spec : {M : Type 1} → statement M
+part_of_spec =
+    tie.close (tie.spec byte_of_requires returns returns_2 returns_3 returns_4 returns_5 returns_6)

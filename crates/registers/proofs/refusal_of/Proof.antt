@@ -3,43 +3,43 @@ use borrow.Author.Rules.{rules}
 use Rattle.registers.proofs.refusal_of.Statement.{statement}
 use Rattle.registers.proofs.refusal_of.Tie as tie
 
-returns : tie.Need-returns
-returns c = refused_empty c.before.before.args.b.now c.if1.true
+returns : tie.Need-returns-then-b-eq0
+returns c = refused_empty c.args.b.now c.if-b-eq0.true
 
-shared-slice-read-length-of : tie.Need-shared-slice-read-length-of
-shared-slice-read-length-of c = search rules
+shared_slice_read_length_of : tie.Need-bounds-b-0
+shared_slice_read_length_of c = search rules
 
-length-of-requires : tie.Need-length-of-requires
-length-of-requires c κs = search rules
+length_of_requires : tie.Need-length_of-requires
+length_of_requires c κs = search rules
 
-returns-2 : tie.Need-returns-2
-returns-2 c = refused_length c.before.before.before.before.before.args.b.now c.before.before.before.if1.false c.before.length-of.ensures c.if2.true
+returns_2 : tie.Need-returns-then-b-length_of
+returns_2 c = refused_length c.args.b.now c.if-b-eq0.false c.length_of.ensures c.if-b-length_of.true
 
-u32-at-requires : tie.Need-u32-at-requires
-u32-at-requires c κs = has_bits c.before.before.before.before.before.args.b.now c.before.before.before.if1.false c.before.length-of.ensures c.if2.false
+u32_at_requires : tie.Need-u32_at-requires
+u32_at_requires c κs = has_bits c.args.b.now c.if-b-eq0.false c.length_of.ensures c.if-b-length_of.false
 
-shared-slice-read-known-end : tie.Need-shared-slice-read-known-end
-shared-slice-read-known-end c = search rules
+shared_slice_read_known_end : tie.Need-bounds-b-0-2
+shared_slice_read_known_end c = search rules
 
-known-end-requires : tie.Need-known-end-requires
-known-end-requires c κs = search rules
+known_end_requires : tie.Need-known_end-requires
+known_end_requires c κs = search rules
 
-returns-3 : tie.Need-returns-3
-returns-3 c = not_refused c.before.before.before.before.before.before.before.before.before.args.b.now c.before.before.before.before.before.before.before.if1.false c.before.before.before.before.before.length-of.ensures c.before.before.before.before.if2.false c.before.before.before.u32-at.ensures c.before.known-end.ensures c.if3.true
+returns_3 : tie.Need-returns-then-u32_at-known_end
+returns_3 c = not_refused c.args.b.now c.if-b-eq0.false c.length_of.ensures c.if-b-length_of.false c.u32_at.ensures c.known_end.ensures c.if-u32_at-known_end.true
 
-returns-4 : tie.Need-returns-4
-returns-4 c = refused_bits c.before.before.before.before.before.before.before.before.before.args.b.now c.before.before.before.before.before.before.before.if1.false c.before.before.before.before.before.length-of.ensures c.before.before.before.before.if2.false c.before.before.before.u32-at.ensures c.before.known-end.ensures c.if3.false
+returns_4 : tie.Need-returns-else-u32_at-known_end
+returns_4 c = refused_bits c.args.b.now c.if-b-eq0.false c.length_of.ensures c.if-b-length_of.false c.u32_at.ensures c.known_end.ensures c.if-u32_at-known_end.false
 
-pub refusal-of-spec : {M : Type 1} → statement M
-refusal-of-spec =
+pub refusal_of_spec : {M : Type 1} → statement M
+refusal_of_spec =
     tie.close
     (tie.spec
     returns
-    shared-slice-read-length-of
-    length-of-requires
-    returns-2
-    u32-at-requires
-    shared-slice-read-known-end
-    known-end-requires
-    returns-3
-    returns-4)
+    shared_slice_read_length_of
+    length_of_requires
+    returns_2
+    u32_at_requires
+    shared_slice_read_known_end
+    known_end_requires
+    returns_3
+    returns_4)

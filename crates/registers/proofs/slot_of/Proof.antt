@@ -5,24 +5,24 @@ use borrow.Author.Rules.{rules}
 use Rattle.registers.proofs.slot_of.Statement.{statement}
 use Rattle.registers.proofs.slot_of.Tie as tie
 
-add-result : tie.Need-overflow-add-result
-add-result c = search rules
+add_result : tie.Need-overflow_add-result
+add_result c = search rules
 
-returns : tie.Need-returns
+returns : tie.Need-returns-then-x-eq13
 unfolding told_slot
-returns c = (rw (eq-eqb _ _ c.before.if1.true), omega arith)
+returns c = (rw (eq-eqb _ _ c.if-x-eq13.true), omega arith)
 
-returns-2 : tie.Need-returns-2
+returns_2 : tie.Need-returns-then-x-gt4
 unfolding told_slot
-returns-2 c = (rw (ne_eqb _ _ c.before.before.if1.false, lt-ltb _ _ c.if2.true), omega arith)
+returns_2 c = (rw (ne_eqb _ _ c.if-x-eq13.false, lt-ltb _ _ c.if-x-gt4.true), omega arith)
 
-returns-3 : tie.Need-returns-3
+returns_3 : tie.Need-returns-then-x-eq4
 unfolding told_slot
-returns-3 c = (rw (ne_eqb _ _ c.before.before.before.before.before.if1.false, le-ltb _ _ c.before.before.before.if2.false, eq-eqb _ _ c.before.if3.true), omega arith)
+returns_3 c = (rw (ne_eqb _ _ c.if-x-eq13.false, le-ltb _ _ c.if-x-gt4.false, eq-eqb _ _ c.if-x-eq4.true), omega arith)
 
-returns-4 : tie.Need-returns-4
+returns_4 : tie.Need-returns-else-x-eq4
 unfolding told_slot
-returns-4 c = (rw (ne_eqb _ _ c.before.before.before.before.before.if1.false, le-ltb _ _ c.before.before.before.if2.false, ne_eqb _ _ c.before.if3.false), omega arith)
+returns_4 c = (rw (ne_eqb _ _ c.if-x-eq13.false, le-ltb _ _ c.if-x-gt4.false, ne_eqb _ _ c.if-x-eq4.false), omega arith)
 
-pub slot-of-spec : {M : Type 1} → statement M
-slot-of-spec = tie.close (tie.spec add-result returns returns-2 returns-3 returns-4)
+pub slot_of_spec : {M : Type 1} → statement M
+slot_of_spec = tie.close (tie.spec add_result returns returns_2 returns_3 returns_4)

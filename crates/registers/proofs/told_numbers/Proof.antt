@@ -3,29 +3,29 @@ use Rattle.registers.specs.Told.{told_numbers}
 use Rattle.registers.proofs.told_numbers.Statement.{statement}
 use Rattle.registers.proofs.told_numbers.Tie as tie
 
-returns : tie.Need-returns
+returns : tie.Need-returns-then-bank-lt4
 unfolding told_numbers
-returns c = rw (lt-ltb _ _ c.if1.true)
+returns c = rw (lt-ltb _ _ c.if-bank-lt4.true)
 
-returns-2 : tie.Need-returns-2
+returns_2 : tie.Need-returns-then-bank-eq4
 unfolding told_numbers
-returns-2 c = rw (le-ltb _ _ c.before.if1.false, eq-eqb _ _ c.if2.true)
+returns_2 c = rw (le-ltb _ _ c.if-bank-lt4.false, eq-eqb _ _ c.if-bank-eq4.true)
 
-returns-3 : tie.Need-returns-3
+returns_3 : tie.Need-returns-then-bank-eq9
 unfolding told_numbers
-returns-3 c = rw (le-ltb _ _ c.before.before.if1.false, ne_eqb _ _ c.before.if2.false, eq-eqb _ _ c.if3.true)
+returns_3 c = rw (le-ltb _ _ c.if-bank-lt4.false, ne_eqb _ _ c.if-bank-eq4.false, eq-eqb _ _ c.if-bank-eq9.true)
 
-returns-4 : tie.Need-returns-4
+returns_4 : tie.Need-returns-then-bank-eq10
 unfolding told_numbers
-returns-4 c = rw (le-ltb _ _ c.before.before.before.if1.false, ne_eqb _ _ c.before.before.if2.false, ne_eqb _ _ c.before.if3.false, eq-eqb _ _ c.if4.true)
+returns_4 c = rw (le-ltb _ _ c.if-bank-lt4.false, ne_eqb _ _ c.if-bank-eq4.false, ne_eqb _ _ c.if-bank-eq9.false, eq-eqb _ _ c.if-bank-eq10.true)
 
-returns-5 : tie.Need-returns-5
+returns_5 : tie.Need-returns-then-bank-eq13
 unfolding told_numbers
-returns-5 c = rw (le-ltb _ _ c.before.before.before.before.if1.false, ne_eqb _ _ c.before.before.before.if2.false, ne_eqb _ _ c.before.before.if3.false, ne_eqb _ _ c.before.if4.false, eq-eqb _ _ c.if5.true)
+returns_5 c = rw (le-ltb _ _ c.if-bank-lt4.false, ne_eqb _ _ c.if-bank-eq4.false, ne_eqb _ _ c.if-bank-eq9.false, ne_eqb _ _ c.if-bank-eq10.false, eq-eqb _ _ c.if-bank-eq13.true)
 
-returns-6 : tie.Need-returns-6
+returns_6 : tie.Need-returns-else-bank-eq13
 unfolding told_numbers
-returns-6 c = rw (le-ltb _ _ c.before.before.before.before.if1.false, ne_eqb _ _ c.before.before.before.if2.false, ne_eqb _ _ c.before.before.if3.false, ne_eqb _ _ c.before.if4.false, ne_eqb _ _ c.if5.false)
+returns_6 c = rw (le-ltb _ _ c.if-bank-lt4.false, ne_eqb _ _ c.if-bank-eq4.false, ne_eqb _ _ c.if-bank-eq9.false, ne_eqb _ _ c.if-bank-eq10.false, ne_eqb _ _ c.if-bank-eq13.false)
 
-pub told-numbers-spec : {M : Type 1} → statement M
-told-numbers-spec = tie.close (tie.spec returns returns-2 returns-3 returns-4 returns-5 returns-6)
+pub told_numbers_spec : {M : Type 1} → statement M
+told_numbers_spec = tie.close (tie.spec returns returns_2 returns_3 returns_4 returns_5 returns_6)

@@ -6,52 +6,52 @@ use borrow.Author.Rules.{rules}
 use Rattle.registers.proofs.value_in.Statement.{statement}
 use Rattle.registers.proofs.value_in.Tie as tie
 
-whole-requires : tie.Need-whole-requires
-whole-requires c κs = search rules
+whole_requires : tie.Need-whole-requires
+whole_requires c κs = search rules
 
-returns : tie.Need-returns
+returns : tie.Need-returns-then-x-eq0
 unfolding value_of part_of is_register
-returns c = rw c.before.if1.true c.whole.ensures
+returns c = rw c.if-x-eq0.true c.whole.ensures
 
-slot-of-requires : tie.Need-slot-of-requires
-slot-of-requires c κs = search rules
+slot_of_requires : tie.Need-slot_of-k-requires
+slot_of_requires c κs = search rules
 
-cast-i : tie.Need-overflow-cast-i
-cast-i c = search rules
+cast_i : tie.Need-overflow_cast-i
+cast_i c = search rules
 
-mul-part-of : tie.Need-overflow-mul-part-of
-mul-part-of c = search rules
+mul_part_of : tie.Need-offset_bounds-values-i
+mul_part_of c = search rules
 
-element-copy-out-part-of : tie.Need-element-copy-out-part-of
-element-copy-out-part-of c = search rules
+element_copy_out_part_of : tie.Need-bounds-values-i
+element_copy_out_part_of c = search rules
 
-part-of-requires : tie.Need-part-of-requires
-part-of-requires c κs = search rules
+part_of_requires : tie.Need-part_of-part-requires
+part_of_requires c κs = search rules
 
-is-told-requires : tie.Need-is-told-requires
-is-told-requires c κs = search rules
+is_told_requires : tie.Need-is_told-told-requires
+is_told_requires c κs = search rules
 
-is-set-requires : tie.Need-is-set-requires
-is-set-requires c κs = search rules
+is_set_requires : tie.Need-is_set-set-requires
+is_set_requires c κs = search rules
 
-known-if-requires : tie.Need-known-if-requires
-known-if-requires c κs = search rules
+known_if_requires : tie.Need-known_if-requires
+known_if_requires c κs = search rules
 
-returns-2 : tie.Need-returns-2
-returns-2 c = c.known-if.ensures.0 ∙ told (file_with c.before.before.before.before.before.before.before.before.args.values.now c.before.before.before.before.before.before.before.before.args.known) c.before.before.before.before.before.before.before.before.args.x c.before.before.before.before.before.slot_of.ensures.0 c.before.before.before.part_of.ensures.0 c.before.before.is-told.ensures c.before.is_set.ensures c.before.before.before.part_of.ensures.1
+returns_2 : tie.Need-returns
+returns_2 c = c.known_if.ensures.0 ∙ told (file_with c.args.values.now c.args.known) c.args.x c.slot_of-k.ensures.0 c.part_of-part.ensures.0 c.is_told-told.ensures c.is_set-set.ensures c.part_of-part.ensures.1
 
-pub value-in-spec : {M : Type 1} → statement M
-value-in-spec =
+pub value_in_spec : {M : Type 1} → statement M
+value_in_spec =
     tie.close
     (tie.spec
-    whole-requires
+    whole_requires
     returns
-    slot-of-requires
-    cast-i
-    mul-part-of
-    element-copy-out-part-of
-    part-of-requires
-    is-told-requires
-    is-set-requires
-    known-if-requires
-    returns-2)
+    slot_of_requires
+    cast_i
+    mul_part_of
+    element_copy_out_part_of
+    part_of_requires
+    is_told_requires
+    is_set_requires
+    known_if_requires
+    returns_2)

@@ -5,31 +5,31 @@ use borrow.Author.Rules.{rules}
 use Rattle.registers.proofs.whole.Statement.{statement}
 use Rattle.registers.proofs.whole.Tie as tie
 
-is-set-requires : tie.Need-is-set-requires
-is-set-requires c κs = search rules
+is_set_requires : tie.Need-is_set-set-requires
+is_set_requires c κs = search rules
 
-mul-known-if : tie.Need-overflow-mul-known-if
-mul-known-if c = search rules
+mul_known_if : tie.Need-offset_bounds-values-i
+mul_known_if c = search rules
 
-element-copy-out-known-if : tie.Need-element-copy-out-known-if
-element-copy-out-known-if c = search rules
+element_copy_out_known_if : tie.Need-bounds-values-i
+element_copy_out_known_if c = search rules
 
-known-if-requires : tie.Need-known-if-requires
-known-if-requires c κs = search rules
+known_if_requires : tie.Need-known_if-requires
+known_if_requires c κs = search rules
 
-returns : tie.Need-returns
-returns c = c.known-if.ensures.0 ∙ whole_told (file_with c.before.before.before.before.args.values.now c.before.before.before.before.args.known) c.before.before.before.before.args.number c.before.before.before.if1.true c.before.before.is_set.ensures refl c.known-if.ensures.1
+returns : tie.Need-returns-then-i-lt16
+returns c = c.known_if.ensures.0 ∙ whole_told (file_with c.args.values.now c.args.known) c.args.number c.if-i-lt16.true c.is_set-set.ensures refl c.known_if.ensures.1
 
-returns-2 : tie.Need-returns-2
-returns-2 c = whole_untold (file_with c.before.args.values.now c.before.args.known) c.before.args.number c.if1.false
+returns_2 : tie.Need-returns-else-i-lt16
+returns_2 c = whole_untold (file_with c.args.values.now c.args.known) c.args.number c.if-i-lt16.false
 
-pub whole-spec : {M : Type 1} → statement M
-whole-spec =
+pub whole_spec : {M : Type 1} → statement M
+whole_spec =
     tie.close
     (tie.spec
-    is-set-requires
-    mul-known-if
-    element-copy-out-known-if
-    known-if-requires
+    is_set_requires
+    mul_known_if
+    element_copy_out_known_if
+    known_if_requires
     returns
-    returns-2)
+    returns_2)

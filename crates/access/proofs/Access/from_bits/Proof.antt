@@ -6,19 +6,19 @@ use Rattle.access.specs.Accesses.{access_of}
 use Rattle.access.proofs.Access.from_bits.Statement.{statement}
 use Rattle.access.proofs.Access.from_bits.Tie as tie
 
-returns : tie.Need-returns
-returns c = rw c.match.keys1
+returns : tie.Need-returns-in-0
+returns c = rw c.in-0.is
 
-returns-2 : tie.Need-returns-2
-returns-2 c = rw c.match.keys2
+returns_2 : tie.Need-returns-in-1
+returns_2 c = rw c.in-1.is
 
-returns-3 : tie.Need-returns-3
-returns-3 c = rw c.match.keys3
+returns_3 : tie.Need-returns-in-2
+returns_3 c = rw c.in-2.is
 
-returns-4 : tie.Need-returns-4
-returns-4 c =
-    let e : 3 ≡ c.before.args.bits % 4 = omega arith in
+returns_4 : tie.Need-returns-in_default
+returns_4 c =
+    let e : 3 ≡ c.args.bits % 4 = omega arith in
     ap access_of e
 
-pub from-bits-spec : {M : Type 1} → statement M
-from-bits-spec = tie.close (tie.spec returns returns-2 returns-3 returns-4)
+pub from_bits_spec : {M : Type 1} → statement M
+from_bits_spec = tie.close (tie.spec returns returns_2 returns_3 returns_4)

@@ -5,12 +5,12 @@ use native.Mathlib.Nat.{div-one}
 use Rattle.access.proofs.Access.is_read.Statement.{statement}
 use Rattle.access.proofs.Access.is_read.Tie as tie
 
-to-bits-requires : tie.Need-to-bits-requires
-to-bits-requires c κs = search rules
+to_bits_requires : tie.Need-to_bits-requires
+to_bits_requires c κs = search rules
 
 returns : tie.Need-returns
 unfolding bit
-returns c = rw (c.to-bits.ensures, div-one)
+returns c = rw (c.to_bits.ensures, div-one)
 
-pub is-read-spec : {M : Type 1} → statement M
-is-read-spec = tie.close (tie.spec to-bits-requires returns)
+pub is_read_spec : {M : Type 1} → statement M
+is_read_spec = tie.close (tie.spec to_bits_requires returns)

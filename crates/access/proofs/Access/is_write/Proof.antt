@@ -4,12 +4,12 @@ use Rattle.laws.specs.Words.{bit}
 use Rattle.access.proofs.Access.is_write.Statement.{statement}
 use Rattle.access.proofs.Access.is_write.Tie as tie
 
-to-bits-requires : tie.Need-to-bits-requires
-to-bits-requires c κs = search rules
+to_bits_requires : tie.Need-to_bits-requires
+to_bits_requires c κs = search rules
 
 returns : tie.Need-returns
 unfolding bit
-returns c = rw c.to-bits.ensures
+returns c = rw c.to_bits.ensures
 
-pub is-write-spec : {M : Type 1} → statement M
-is-write-spec = tie.close (tie.spec to-bits-requires returns)
+pub is_write_spec : {M : Type 1} → statement M
+is_write_spec = tie.close (tie.spec to_bits_requires returns)

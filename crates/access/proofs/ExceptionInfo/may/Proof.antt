@@ -7,18 +7,18 @@ use Rattle.access.proofs.Laws.{may_taken, may_refused}
 use Rattle.access.proofs.ExceptionInfo.may.Statement.{statement}
 use Rattle.access.proofs.ExceptionInfo.may.Tie as tie
 
-cast-k : tie.Need-overflow-cast-k
-cast-k c = search rules
+cast_k : tie.Need-overflow_cast-k
+cast_k c = search rules
 
-returns : tie.Need-returns
-returns c = sym (may_refused c.before.before.args.self c.before.before.args.e.vector (omega arith))
+returns : tie.Need-returns-then-k-gt-LAST_VECTOR
+returns c = sym (may_refused c.args.self c.args.e.vector (omega arith))
 
-shr-t5 : tie.Need-overflow-shr-t5
-shr-t5 c = search rules
+shr_t5 : tie.Need-overflow_shr-result
+shr_t5 c = search rules
 
-returns-2 : tie.Need-returns-2
+returns_2 : tie.Need-returns
 unfolding bit
-returns-2 c = sym (may_taken c.before.before.before.args.self c.before.before.before.args.e.vector (omega arith))
+returns_2 c = sym (may_taken c.args.self c.args.e.vector (omega arith))
 
-pub may-spec : {M : Type 1} → statement M
-may-spec = tie.close (tie.spec cast-k returns shr-t5 returns-2)
+pub may_spec : {M : Type 1} → statement M
+may_spec = tie.close (tie.spec cast_k returns shr_t5 returns_2)

@@ -3,11 +3,11 @@ use borrow.Author.Rules.{rules}
 use Rattle.access.proofs.ExceptionInfo.none.Statement.{statement}
 use Rattle.access.proofs.ExceptionInfo.none.Tie as tie
 
-any-requires : tie.Need-any-requires
-any-requires c κs = search rules
+any_requires : tie.Need-any-requires
+any_requires c κs = search rules
 
 returns : tie.Need-returns
 returns c = rw c.any.ensures
 
 pub none_spec : {M : Type 1} → statement M
-none_spec = tie.close (tie.spec any-requires returns)
+none_spec = tie.close (tie.spec any_requires returns)

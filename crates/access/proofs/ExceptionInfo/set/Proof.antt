@@ -6,21 +6,21 @@ use Rattle.access.proofs.Laws.{set_taken, set_refused}
 use Rattle.access.proofs.ExceptionInfo.set.Statement.{statement}
 use Rattle.access.proofs.ExceptionInfo.set.Tie as tie
 
-cast-k : tie.Need-overflow-cast-k
-cast-k c = search rules
+cast_k : tie.Need-overflow_cast-k
+cast_k c = search rules
 
-returns : tie.Need-returns
+returns : tie.Need-returns-then-k-gt-LAST_VECTOR
 returns c =
-    let a = c.before.before.args in
+    let a = c.args in
     sym (set_refused a.self a.e.vector a.b (omega arith))
 
-with-bit-requires : tie.Need-with-bit-requires
-with-bit-requires c κs = search rules
+with_bit_requires : tie.Need-with_bit-requires
+with_bit_requires c κs = search rules
 
-returns-2 : tie.Need-returns-2
-returns-2 c =
-    let a = c.before.before.before.args in
-    rw c.with_bit_lem.ensures (sym (set_taken a.self a.e.vector a.b (omega arith)))
+returns_2 : tie.Need-returns
+returns_2 c =
+    let a = c.args in
+    rw c.with_bit.ensures (sym (set_taken a.self a.e.vector a.b (omega arith)))
 
 pub set_spec : {M : Type 1} → statement M
-set_spec = tie.close (tie.spec cast-k returns with-bit-requires returns-2)
+set_spec = tie.close (tie.spec cast_k returns with_bit_requires returns_2)

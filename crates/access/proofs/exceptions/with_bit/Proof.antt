@@ -15,29 +15,29 @@ without v k h = rw (own_shifted v k h) (cleared v k)
 within : (v k : ℕ) → k < 32 → v - own v k % 2 ^ 32 + 1 * 2 ^ k % 2 ^ 32 ≡ with_bit v k true
 within v k h = rw (without v k h, one_shifted k h) (filled v k)
 
-shr-old : tie.Need-overflow-shr-old
-shr-old c = search rules
+shr_old : tie.Need-overflow_shr-old
+shr_old c = search rules
 
-shl-cleared : tie.Need-overflow-shl-cleared
-shl-cleared c = search rules
+shl_cleared : tie.Need-overflow_shl-cleared
+shl_cleared c = search rules
 
-sub-cleared : tie.Need-overflow-sub-cleared
-sub-cleared c = rw (own_shifted c.args.vectors c.args.k c.requires) (own_le c.args.vectors c.args.k)
+sub_cleared : tie.Need-overflow_sub-cleared
+sub_cleared c = rw (own_shifted c.args.vectors c.args.k c.requires) (own_le c.args.vectors c.args.k)
 
-shl-result : tie.Need-overflow-shl-result
-shl-result c = search rules
+shl_result : tie.Need-overflow_shl-result
+shl_result c = search rules
 
-add-result : tie.Need-overflow-add-result
-add-result c =
-    let a = c.before.args in
-    record { fits = rw (within a.vectors a.k c.before.requires) (bit_bound a.vectors a.k true c.before.requires c.before.ranges.vectors.fits) }
+add_result : tie.Need-overflow_add-result
+add_result c =
+    let a = c.args in
+    record { fits = rw (within a.vectors a.k c.requires) (bit_bound a.vectors a.k true c.requires c.ranges.vectors.fits) }
 
-returns : tie.Need-returns
-returns c = rw c.if1.true (within c.before.args.vectors c.before.args.k c.before.requires)
+returns : tie.Need-returns-then-b
+returns c = rw c.if-b.true (within c.args.vectors c.args.k c.requires)
 
-returns-2 : tie.Need-returns-2
-returns-2 c = rw c.if1.false (without c.before.args.vectors c.before.args.k c.before.requires)
+returns_2 : tie.Need-returns-else-b
+returns_2 c = rw c.if-b.false (without c.args.vectors c.args.k c.requires)
 
-pub with-bit-spec : {M : Type 1} → statement M
-with-bit-spec =
-    tie.close (tie.spec shr-old shl-cleared sub-cleared shl-result add-result returns returns-2)
+pub with_bit_spec : {M : Type 1} → statement M
+with_bit_spec =
+    tie.close (tie.spec shr_old shl_cleared sub_cleared shl_result add_result returns returns_2)

@@ -8,5 +8,5 @@ returns : tie.Need-returns
 unfolding bit
 returns c = refl
 
-pub is-complex-spec : {M : Type 1} → statement M
-is-complex-spec = tie.close (tie.spec returns)
+pub is_complex_spec : {M : Type 1} → statement M
+is_complex_spec = tie.close (tie.spec returns)

@@ -8,5 +8,5 @@ returns : tie.Need-returns
 unfolding bit
 returns c = refl
 
-pub is-nontrivial-spec : {M : Type 1} → statement M
-is-nontrivial-spec = tie.close (tie.spec returns)
+pub is_nontrivial_spec : {M : Type 1} → statement M
+is_nontrivial_spec = tie.close (tie.spec returns)

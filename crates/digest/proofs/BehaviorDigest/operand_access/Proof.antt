@@ -12,23 +12,23 @@ use Rattle.digest.proofs.BehaviorDigest.operand_access.Tie as tie
 shift : (i : ℕ) → i ≤ 3 → 2 ^ (i * 2) ≡ 4 ^ i
 shift i h = span (λ (k : ℕ). 2 ^ (k * 2) ≡ 4 ^ k) 0 4 (refl, (refl, (refl, (refl, tt)))) i zero-le (omega arith)
 
-returns : tie.Need-returns
-returns c = sym (ap access_of (access_none c.before.args.self c.before.args.operand (search rules) (omega arith)))
+returns : tie.Need-returns-then-operand-gt3
+returns c = sym (ap access_of (access_none c.args.self c.args.operand (search rules) (omega arith)))
 
-mul-from-bits : tie.Need-overflow-mul-from-bits
-mul-from-bits c = search rules
+mul_from_bits : tie.Need-overflow_mul-operand
+mul_from_bits c = search rules
 
-shr-from-bits : tie.Need-overflow-shr-from-bits
-shr-from-bits c = search rules
+shr_from_bits : tie.Need-overflow_shr-self
+shr_from_bits c = search rules
 
-from-bits-requires : tie.Need-from-bits-requires
-from-bits-requires c κs = search rules
+from_bits_requires : tie.Need-from_bits-requires
+from_bits_requires c κs = search rules
 
-returns-2 : tie.Need-returns-2
-returns-2 c =
-    let a = c.before.before.before.args in
+returns_2 : tie.Need-returns
+returns_2 c =
+    let a = c.args in
     c.from_bits.ensures ∙ ap (λ (n : ℕ). access_of (a.self.operands / n % 4)) (shift a.operand (omega arith))
 
-pub operand-access-spec : {M : Type 1} → statement M
-operand-access-spec =
-    tie.close (tie.spec returns mul-from-bits shr-from-bits from-bits-requires returns-2)
+pub operand_access_spec : {M : Type 1} → statement M
+operand_access_spec =
+    tie.close (tie.spec returns mul_from_bits shr_from_bits from_bits_requires returns_2)

@@ -7,14 +7,14 @@ use Rattle.access.specs.Privileges.{level_of}
 use Rattle.digest.proofs.BehaviorDigest.privilege_level.Statement.{statement}
 use Rattle.digest.proofs.BehaviorDigest.privilege_level.Tie as tie
 
-from-bits-requires : tie.Need-from-bits-requires
-from-bits-requires c κs = search rules
+from_bits_requires : tie.Need-from_bits-requires
+from_bits_requires c κs = search rules
 
 returns : tie.Need-returns
 returns c =
-    let b : ℕ = c.before.args.self.behavior in
+    let b : ℕ = c.args.self.behavior in
     let e : b % 4 ≡ b / 1 % 4 = omega arith in
     c.from_bits.ensures ∙ ap level_of e
 
-pub privilege-level-spec : {M : Type 1} → statement M
-privilege-level-spec = tie.close (tie.spec from-bits-requires returns)
+pub privilege_level_spec : {M : Type 1} → statement M
+privilege_level_spec = tie.close (tie.spec from_bits_requires returns)

@@ -7,13 +7,13 @@ use Rattle.digest.proofs.Laws.{list_taken, list_refused}
 use Rattle.digest.proofs.BehaviorDigest.set_implicit_ops.Statement.{statement}
 use Rattle.digest.proofs.BehaviorDigest.set_implicit_ops.Tie as tie
 
-returns : tie.Need-returns
-returns c = sym (list_refused c.before.args.self c.before.args.list (omega arith))
+returns : tie.Need-returns-then-list-gt28
+returns c = sym (list_refused c.args.self c.args.list (omega arith))
 
-returns-2 : tie.Need-returns-2
+returns_2 : tie.Need-returns
 unfolding with_list
-returns-2 c = sym (list_taken c.before.args.self c.before.args.list (omega arith))
+returns_2 c = sym (list_taken c.args.self c.args.list (omega arith))
 
-pub set-implicit-ops-spec : {M : Type 1} → statement M
-set-implicit-ops-spec =
-    tie.close (tie.spec returns returns-2)
+pub set_implicit_ops_spec : {M : Type 1} → statement M
+set_implicit_ops_spec =
+    tie.close (tie.spec returns returns_2)

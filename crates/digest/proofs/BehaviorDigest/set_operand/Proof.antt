@@ -8,89 +8,89 @@ use Rattle.digest.proofs.Laws.{lowest, highest, operand_refused}
 use Rattle.digest.proofs.BehaviorDigest.set_operand.Statement.{statement}
 use Rattle.digest.proofs.BehaviorDigest.set_operand.Tie as tie
 
-two-bits-requires : tie.Need-two-bits-requires
-two-bits-requires c κs = search rules
+two_bits_requires : tie.Need-two_bits-a-requires
+two_bits_requires c κs = search rules
 
-mul-self : tie.Need-overflow-mul-self
-mul-self c = search rules
+mul_self : tie.Need-overflow_mul-self
+mul_self c = search rules
 
-add-self : tie.Need-overflow-add-self
-add-self c = search rules
+add_self : tie.Need-overflow_add-self
+add_self c = search rules
 
-mul-self-2 : tie.Need-overflow-mul-self-2
-mul-self-2 c = search rules
+mul_self_2 : tie.Need-overflow_mul-self-in-1
+mul_self_2 c = search rules
 
-mul-self-3 : tie.Need-overflow-mul-self-3
-mul-self-3 c = search rules
+mul_self_3 : tie.Need-overflow_mul-self-in-1-2
+mul_self_3 c = search rules
 
-add-self-2 : tie.Need-overflow-add-self-2
-add-self-2 c = search rules
+add_self_2 : tie.Need-overflow_add-self-in-1
+add_self_2 c = search rules
 
-add-self-3 : tie.Need-overflow-add-self-3
-add-self-3 c = search rules
+add_self_3 : tie.Need-overflow_add-self-in-1-2
+add_self_3 c = search rules
 
-mul-self-4 : tie.Need-overflow-mul-self-4
-mul-self-4 c = search rules
+mul_self_4 : tie.Need-overflow_mul-self-in-2
+mul_self_4 c = search rules
 
-mul-self-5 : tie.Need-overflow-mul-self-5
-mul-self-5 c = search rules
+mul_self_5 : tie.Need-overflow_mul-self-in-2-2
+mul_self_5 c = search rules
 
-add-self-4 : tie.Need-overflow-add-self-4
-add-self-4 c = search rules
+add_self_4 : tie.Need-overflow_add-self-in-2
+add_self_4 c = search rules
 
-add-self-5 : tie.Need-overflow-add-self-5
-add-self-5 c = search rules
+add_self_5 : tie.Need-overflow_add-self-in-2-2
+add_self_5 c = search rules
 
-mul-self-6 : tie.Need-overflow-mul-self-6
-mul-self-6 c = search rules
+mul_self_6 : tie.Need-overflow_mul-self-in-3
+mul_self_6 c = search rules
 
-add-self-6 : tie.Need-overflow-add-self-6
-add-self-6 c = search rules
+add_self_6 : tie.Need-overflow_add-self-in-3
+add_self_6 c = search rules
 
-returns : tie.Need-returns
+returns : tie.Need-returns-in-0
 unfolding operand_answer with_access
 returns c =
-    let a = c.before.before.args in
-    rw (c.match.keys1, c.before.two-bits.ensures.0, lowest a.self.operands (access_number a.access))
+    let a = c.args in
+    rw (c.in-0.is, c.two_bits-a.ensures.0, lowest a.self.operands (access_number a.access))
 
-returns-2 : tie.Need-returns-2
+returns_2 : tie.Need-returns-in-1
 unfolding operand_answer with_access
-returns-2 c = rw (c.match.keys2, c.before.two-bits.ensures.0)
+returns_2 c = rw (c.in-1.is, c.two_bits-a.ensures.0)
 
-returns-3 : tie.Need-returns-3
+returns_3 : tie.Need-returns-in-2
 unfolding operand_answer with_access
-returns-3 c = rw (c.match.keys3, c.before.two-bits.ensures.0)
+returns_3 c = rw (c.in-2.is, c.two_bits-a.ensures.0)
 
-returns-4 : tie.Need-returns-4
+returns_4 : tie.Need-returns-in-3
 unfolding operand_answer with_access
-returns-4 c =
-    let a = c.before.before.args in
-    rw (c.match.keys4, c.before.two-bits.ensures.0, highest a.self.operands (access_number a.access) (search rules))
+returns_4 c =
+    let a = c.args in
+    rw (c.in-3.is, c.two_bits-a.ensures.0, highest a.self.operands (access_number a.access) (search rules))
 
-returns-5 : tie.Need-returns-5
-returns-5 c =
-    let a = c.before.before.args in
+returns_5 : tie.Need-returns-in_default
+returns_5 c =
+    let a = c.args in
     sym (operand_refused a.self a.operand (access_number a.access) (omega arith))
 
-pub set-operand-spec : {M : Type 1} → statement M
-set-operand-spec =
+pub set_operand_spec : {M : Type 1} → statement M
+set_operand_spec =
     tie.close
     (tie.spec
-    two-bits-requires
-    mul-self
-    add-self
-    mul-self-2
-    mul-self-3
-    add-self-2
-    add-self-3
-    mul-self-4
-    mul-self-5
-    add-self-4
-    add-self-5
-    mul-self-6
-    add-self-6
+    two_bits_requires
+    mul_self
+    add_self
+    mul_self_2
+    mul_self_3
+    add_self_2
+    add_self_3
+    mul_self_4
+    mul_self_5
+    add_self_4
+    add_self_5
+    mul_self_6
+    add_self_6
     returns
-    returns-2
-    returns-3
-    returns-4
-    returns-5)
+    returns_2
+    returns_3
+    returns_4
+    returns_5)

@@ -5,15 +5,15 @@ use Rattle.digest.proofs.Laws.{lowest}
 use Rattle.digest.proofs.BehaviorDigest.set_privilege.Statement.{statement}
 use Rattle.digest.proofs.BehaviorDigest.set_privilege.Tie as tie
 
-mul-self : tie.Need-overflow-mul-self
-mul-self c = search rules
+mul_self : tie.Need-overflow_mul-self
+mul_self c = search rules
 
-add-self : tie.Need-overflow-add-self
-add-self c = search rules
+add_self : tie.Need-overflow_add-self
+add_self c = search rules
 
 returns : tie.Need-returns
 unfolding with_behavior
-returns c = rw (lowest c.before.args.self.behavior c.before.args.level)
+returns c = rw (lowest c.args.self.behavior c.args.level)
 
-pub set-privilege-spec : {M : Type 1} → statement M
-set-privilege-spec = tie.close (tie.spec mul-self add-self returns)
+pub set_privilege_spec : {M : Type 1} → statement M
+set_privilege_spec = tie.close (tie.spec mul_self add_self returns)

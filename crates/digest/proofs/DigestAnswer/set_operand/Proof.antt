@@ -3,20 +3,20 @@ use borrow.Author.Rules.{rules}
 use Rattle.digest.proofs.DigestAnswer.set_operand.Statement.{statement}
 use Rattle.digest.proofs.DigestAnswer.set_operand.Tie as tie
 
-enum-known-self : tie.Need-enum-known-self
-enum-known-self c = search rules
+enum_known_self : tie.Need-enum_known-self
+enum_known_self c = search rules
 
-set-operand-requires : tie.Need-set-operand-requires
-set-operand-requires c κs = search rules
+set_operand_requires : tie.Need-set_operand-requires
+set_operand_requires c κs = search rules
 
-enum-known-self-2 : tie.Need-enum-known-self-2
-enum-known-self-2 c = search rules
+enum_known_self_2 : tie.Need-enum_known-self-in-Refused-1
+enum_known_self_2 c = search rules
 
-returns : tie.Need-returns
-returns c = rw c.before.before.self.given.1 c.set-operand.ensures
+returns : tie.Need-returns-in-Done
+returns c = rw c.in-Done.is c.set_operand.ensures
 
-returns-2 : tie.Need-returns-2
-returns-2 c = rw c.before.self2.given.1
+returns_2 : tie.Need-returns-in-Refused
+returns_2 c = rw c.in-Refused.is
 
-pub set-operand-spec : {M : Type 1} → statement M
-set-operand-spec = tie.close (tie.spec enum-known-self set-operand-requires enum-known-self-2 returns returns-2)
+pub set_operand_spec : {M : Type 1} → statement M
+set_operand_spec = tie.close (tie.spec enum_known_self set_operand_requires enum_known_self_2 returns returns_2)

@@ -4,15 +4,15 @@ use borrow.Author.Rules.{rules}
 use Rattle.record.proofs.Record.completed.Statement.{statement}
 use Rattle.record.proofs.Record.completed.Tie as tie
 
-digest-in-requires : tie.Need-digest-in-requires
-digest-in-requires c κs = search rules
+digest_in_requires : tie.Need-digest_in-self-requires
+digest_in_requires c κs = search rules
 
-segment-in-requires : tie.Need-segment-in-requires
-segment-in-requires c κs = search rules
+segment_in_requires : tie.Need-segment_in-requires
+segment_in_requires c κs = search rules
 
 returns : tie.Need-returns
 unfolding completed_record record_of
-returns c = rw (c.before.digest-in.ensures, c.segment-in.ensures)
+returns c = rw (c.digest_in-self.ensures, c.segment_in.ensures)
 
-pub completed-spec : {M : Type 1} → statement M
-completed-spec = tie.close (tie.spec digest-in-requires segment-in-requires returns)
+pub completed_spec : {M : Type 1} → statement M
+completed_spec = tie.close (tie.spec digest_in_requires segment_in_requires returns)

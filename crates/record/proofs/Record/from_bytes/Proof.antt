@@ -6,23 +6,23 @@ use borrow.Author.Rules.{rules}
 use Rattle.record.proofs.Record.from_bytes.Statement.{statement}
 use Rattle.record.proofs.Record.from_bytes.Tie as tie
 
-refusal-of-requires : tie.Need-refusal-of-requires
-refusal-of-requires c κs = search rules
+refusal_of_requires : tie.Need-refusal_of-number-requires
+refusal_of_requires c κs = search rules
 
-refused-requires : tie.Need-refused-requires
-refused-requires c κs = search rules
+refused_requires : tie.Need-refused-requires
+refused_requires c κs = search rules
 
-returns : tie.Need-returns
+returns : tie.Need-returns-then-number-ne0
 unfolding record_answer
-returns c = rw (ne_eqb _ _ (rw c.before.before.refusal-of.ensures at c.before.if1.true), ← c.before.before.refusal-of.ensures) c.refused.ensures
+returns c = rw (ne_eqb _ _ (rw c.refusal_of-number.ensures at c.if-number-ne0.true), ← c.refusal_of-number.ensures) c.refused.ensures
 
-parse-requires : tie.Need-parse-requires
-parse-requires c κs = record_long c.before.before.before.args.b.now (passed c.before.before.before.args.b.now (sym c.before.refusal-of.ensures ∙ c.if1.false)).is
+parse_requires : tie.Need-parse-read-requires
+parse_requires c κs = record_long c.args.b.now (passed c.args.b.now (sym c.refusal_of-number.ensures ∙ c.if-number-ne0.false)).is
 
-returns-2 : tie.Need-returns-2
+returns_2 : tie.Need-returns
 unfolding record_answer
-returns-2 c = rw (eq-eqb _ _ (sym c.before.before.refusal-of.ensures ∙ c.before.if1.false), c.parse.ensures)
+returns_2 c = rw (eq-eqb _ _ (sym c.refusal_of-number.ensures ∙ c.if-number-ne0.false), c.parse-read.ensures)
 
-pub from-bytes-spec : {M : Type 1} → statement M
-from-bytes-spec =
-    tie.close (tie.spec refusal-of-requires refused-requires returns parse-requires returns-2)
+pub from_bytes_spec : {M : Type 1} → statement M
+from_bytes_spec =
+    tie.close (tie.spec refusal_of_requires refused_requires returns parse_requires returns_2)

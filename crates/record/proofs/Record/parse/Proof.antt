@@ -4,14 +4,14 @@ use borrow.Author.Rules.{rules}
 use Rattle.record.proofs.Record.parse.Statement.{statement}
 use Rattle.record.proofs.Record.parse.Tie as tie
 
-plain-requires : tie.Need-plain-requires
-plain-requires c κs = search rules
+plain_requires : tie.Need-plain-requires
+plain_requires c κs = search rules
 
-completed-requires : tie.Need-completed-requires
-completed-requires c κs = search rules
+completed_requires : tie.Need-completed-requires
+completed_requires c κs = search rules
 
 returns : tie.Need-returns
-returns c = rw c.before.plain.ensures at c.completed.ensures ∙ halves c.before.before.before.args.b.now
+returns c = rw c.plain.ensures at c.completed.ensures ∙ halves c.args.b.now
 
-pub parse-spec : {M : Type 1} → statement M
-parse-spec = tie.close (tie.spec plain-requires completed-requires returns)
+pub parse_spec : {M : Type 1} → statement M
+parse_spec = tie.close (tie.spec plain_requires completed_requires returns)

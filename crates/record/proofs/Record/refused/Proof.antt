@@ -7,5 +7,5 @@ returns : tie.Need-returns
 unfolding no_record
 returns c = refl
 
-pub refused-spec : {M : Type 1} → statement M
-refused-spec = tie.close (tie.spec returns)
+pub refused_spec : {M : Type 1} → statement M
+refused_spec = tie.close (tie.spec returns)

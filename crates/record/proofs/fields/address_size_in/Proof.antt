@@ -3,15 +3,15 @@ use borrow.Author.Rules.{rules}
 use Rattle.record.proofs.fields.address_size_in.Statement.{statement}
 use Rattle.record.proofs.fields.address_size_in.Tie as tie
 
-shared-slice-read-has-bit : tie.Need-shared-slice-read-has-bit
-shared-slice-read-has-bit c = search rules
+shared_slice_read_has_bit : tie.Need-bounds-b-34
+shared_slice_read_has_bit c = search rules
 
-has-bit-requires : tie.Need-has-bit-requires
-has-bit-requires c κs = search rules
+has_bit_requires : tie.Need-has_bit-requires
+has_bit_requires c κs = search rules
 
 returns : tie.Need-returns
 unfolding record_of
-returns c = c.has-bit.ensures
+returns c = c.has_bit.ensures
 
-pub address-size-in-spec : {M : Type 1} → statement M
-address-size-in-spec = tie.close (tie.spec shared-slice-read-has-bit has-bit-requires returns)
+pub address_size_in_spec : {M : Type 1} → statement M
+address_size_in_spec = tie.close (tie.spec shared_slice_read_has_bit has_bit_requires returns)

@@ -4,12 +4,12 @@ use borrow.Author.Rules.{rules}
 use Rattle.record.proofs.fields.count_in.Statement.{statement}
 use Rattle.record.proofs.fields.count_in.Tie as tie
 
-shared-slice-read-result : tie.Need-shared-slice-read-result
-shared-slice-read-result c = search rules
+shared_slice_read_result : tie.Need-bounds-b-3
+shared_slice_read_result c = search rules
 
 returns : tie.Need-returns
 unfolding record_of
 returns c = refl
 
-pub count-in-spec : {M : Type 1} → statement M
-count-in-spec = tie.close (tie.spec shared-slice-read-result returns)
+pub count_in_spec : {M : Type 1} → statement M
+count_in_spec = tie.close (tie.spec shared_slice_read_result returns)

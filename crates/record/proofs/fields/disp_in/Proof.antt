@@ -3,12 +3,12 @@ use borrow.Author.Rules.{rules}
 use Rattle.record.proofs.fields.disp_in.Statement.{statement}
 use Rattle.record.proofs.fields.disp_in.Tie as tie
 
-u64-at-requires : tie.Need-u64-at-requires
-u64-at-requires c κs = search rules
+u64_at_requires : tie.Need-u64_at-requires
+u64_at_requires c κs = search rules
 
 returns : tie.Need-returns
 unfolding record_of
-returns c = c.u64-at.ensures
+returns c = c.u64_at.ensures
 
-pub disp-in-spec : {M : Type 1} → statement M
-disp-in-spec = tie.close (tie.spec u64-at-requires returns)
+pub disp_in_spec : {M : Type 1} → statement M
+disp_in_spec = tie.close (tie.spec u64_at_requires returns)

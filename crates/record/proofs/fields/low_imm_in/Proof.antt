@@ -4,11 +4,11 @@ use Rattle.record.proofs.Laws.{low_there}
 use Rattle.record.proofs.fields.low_imm_in.Statement.{statement}
 use Rattle.record.proofs.fields.low_imm_in.Tie as tie
 
-shared-slice-read-result : tie.Need-shared-slice-read-result
-shared-slice-read-result c = search rules
+shared_slice_read_result : tie.Need-bounds-b-26
+shared_slice_read_result c = search rules
 
 returns : tie.Need-returns
-returns c = low_there c.before.args.b.now (omega (arith, c.shared-slice-known.given 26))
+returns c = low_there c.args.b.now (omega (arith, c.shared_slice_known-1.given 26))
 
-pub low-imm-in-spec : {M : Type 1} → statement M
-low-imm-in-spec = tie.close (tie.spec shared-slice-read-result returns)
+pub low_imm_in_spec : {M : Type 1} → statement M
+low_imm_in_spec = tie.close (tie.spec shared_slice_read_result returns)

@@ -3,12 +3,12 @@ use borrow.Author.Rules.{rules}
 use Rattle.record.proofs.fields.opcode_in.Statement.{statement}
 use Rattle.record.proofs.fields.opcode_in.Tie as tie
 
-u16-at-requires : tie.Need-u16-at-requires
-u16-at-requires c κs = search rules
+u16_at_requires : tie.Need-u16_at-requires
+u16_at_requires c κs = search rules
 
 returns : tie.Need-returns
 unfolding record_of
-returns c = c.u16-at.ensures
+returns c = c.u16_at.ensures
 
-pub opcode-in-spec : {M : Type 1} → statement M
-opcode-in-spec = tie.close (tie.spec u16-at-requires returns)
+pub opcode_in_spec : {M : Type 1} → statement M
+opcode_in_spec = tie.close (tie.spec u16_at_requires returns)

@@ -3,14 +3,14 @@ use Rattle.record.proofs.Laws.{spec_there}
 use Rattle.record.proofs.fields.spec_in.Statement.{statement}
 use Rattle.record.proofs.fields.spec_in.Tie as tie
 
-add-result : tie.Need-overflow-add-result
-add-result c = search rules
+add_result : tie.Need-overflow_add-result
+add_result c = search rules
 
-shared-slice-read-result : tie.Need-shared-slice-read-result
-shared-slice-read-result c = search rules
+shared_slice_read_result : tie.Need-bounds-b-i
+shared_slice_read_result c = search rules
 
 returns : tie.Need-returns
-returns c = spec_there c.before.args.b.now c.before.args.i c.before.requires.1
+returns c = spec_there c.args.b.now c.args.i c.requires.1
 
-pub spec-in-spec : {M : Type 1} → statement M
-spec-in-spec = tie.close (tie.spec add-result shared-slice-read-result returns)
+pub spec_in_spec : {M : Type 1} → statement M
+spec_in_spec = tie.close (tie.spec add_result shared_slice_read_result returns)

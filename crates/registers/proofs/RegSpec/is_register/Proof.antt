@@ -3,12 +3,12 @@ use borrow.Author.Rules.{rules}
 use Rattle.registers.proofs.RegSpec.is_register.Statement.{statement}
 use Rattle.registers.proofs.RegSpec.is_register.Tie as tie
 
-bank-numbers-requires : tie.Need-bank-numbers-requires
-bank-numbers-requires c κs = search rules
+bank_numbers_requires : tie.Need-bank_numbers-requires
+bank_numbers_requires c κs = search rules
 
 returns : tie.Need-returns
 unfolding is_register
-returns c = rw c.bank-numbers.ensures
+returns c = rw c.bank_numbers.ensures
 
-pub is-register-spec : {M : Type 1} → statement M
-is-register-spec = tie.close (tie.spec bank-numbers-requires returns)
+pub is_register_spec : {M : Type 1} → statement M
+is_register_spec = tie.close (tie.spec bank_numbers_requires returns)

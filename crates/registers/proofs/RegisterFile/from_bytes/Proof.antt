@@ -3,21 +3,21 @@ use borrow.Author.Rules.{rules}
 use Rattle.registers.proofs.RegisterFile.from_bytes.Statement.{statement}
 use Rattle.registers.proofs.RegisterFile.from_bytes.Tie as tie
 
-refusal-of-requires : tie.Need-refusal-of-requires
-refusal-of-requires c κs = search rules
+refusal_of_requires : tie.Need-refusal_of-requires
+refusal_of_requires c κs = search rules
 
-refused-requires : tie.Need-refused-requires
-refused-requires c κs = search rules
+refused_requires : tie.Need-refused-requires
+refused_requires c κs = search rules
 
-returns : tie.Need-returns
-returns c = bad_file_lem c.before.before.before.before.args.b.now (rw c.before.before.refusal-of.ensures at c.before.if1.true) c.refused.ensures
+returns : tie.Need-returns-then-refusal_of-ne0
+returns c = bad_file_lem c.args.b.now (rw c.refusal_of.ensures at c.if-refusal_of-ne0.true) c.refused.ensures
 
-parse-requires : tie.Need-parse-requires
-parse-requires c κs = file_long c.before.before.before.args.b.now (rw c.before.refusal-of.ensures at c.if1.false)
+parse_requires : tie.Need-parse-file-requires
+parse_requires c κs = file_long c.args.b.now (rw c.refusal_of.ensures at c.if-refusal_of-ne0.false)
 
-returns-2 : tie.Need-returns-2
-returns-2 c = good_file c.before.before.before.before.args.b.now (rw c.before.before.refusal-of.ensures at c.before.if1.false) c.parse.ensures
+returns_2 : tie.Need-returns
+returns_2 c = good_file c.args.b.now (rw c.refusal_of.ensures at c.if-refusal_of-ne0.false) c.parse-file.ensures
 
-pub from-bytes-spec : {M : Type 1} → statement M
-from-bytes-spec =
-    tie.close (tie.spec refusal-of-requires refused-requires returns parse-requires returns-2)
+pub from_bytes_spec : {M : Type 1} → statement M
+from_bytes_spec =
+    tie.close (tie.spec refusal_of_requires refused_requires returns parse_requires returns_2)
