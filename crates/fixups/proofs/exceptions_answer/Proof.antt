@@ -12,34 +12,34 @@ use Rattle.fixups.proofs.exceptions_answer.Tie as tie
 abbrev read : Record → InfoAnswer
 read x = Done (info_of (exceptions_of (fixed_up x)))
 
-from-bytes-requires : tie.Need-from-bytes-requires
-from-bytes-requires c κs = search rules
+from_bytes_requires : tie.Need-from_bytes-answer-requires
+from_bytes_requires c κs = search rules
 
-returns : tie.Need-returns
+returns : tie.Need-returns-then-answer-ne0
 unfolding exceptions_call
 returns c =
-    let s = c.before.before in
-    when_refused s.before.before.args.b.now s.from_bytes.result s.from_bytes.ensures read Refused c.if1.true
+    let s = c in
+    when_refused s.args.b.now s.from_bytes-answer.result s.from_bytes-answer.ensures read Refused c.if-answer-ne0.true
 
-fixed-up-requires : tie.Need-fixed-up-requires
-fixed-up-requires c κs = search rules
+fixed_up_requires : tie.Need-fixed_up-requires
+fixed_up_requires c κs = search rules
 
-exceptions-of-requires : tie.Need-exceptions-of-requires
-exceptions-of-requires c κs = search rules
+exceptions_of_requires : tie.Need-exceptions_of-requires
+exceptions_of_requires c κs = search rules
 
-returns-2 : tie.Need-returns-2
+returns_2 : tie.Need-returns
 unfolding exceptions_call
-returns-2 c =
-    let s = c.before.before.before.before in
-    rw (c.exceptions-of.ensures, c.before.fixed-up.ensures)
-    (when_read s.before.before.args.b.now s.from_bytes.result s.from_bytes.ensures read Refused c.before.before.if1.false)
+returns_2 c =
+    let s = c in
+    rw (c.exceptions_of.ensures, c.fixed_up.ensures)
+    (when_read s.args.b.now s.from_bytes-answer.result s.from_bytes-answer.ensures read Refused c.if-answer-ne0.false)
 
-pub exceptions-answer-spec : {M : Type 1} → statement M
-exceptions-answer-spec =
+pub exceptions_answer_spec : {M : Type 1} → statement M
+exceptions_answer_spec =
     tie.close
     (tie.spec
-    from-bytes-requires
+    from_bytes_requires
     returns
-    fixed-up-requires
-    exceptions-of-requires
-    returns-2)
+    fixed_up_requires
+    exceptions_of_requires
+    returns_2)

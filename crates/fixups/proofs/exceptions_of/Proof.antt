@@ -9,36 +9,36 @@ use Rattle.fixups.proofs.Answers.{two_vectors}
 use Rattle.fixups.proofs.exceptions_of.Statement.{statement}
 use Rattle.fixups.proofs.exceptions_of.Tie as tie
 
-empty-requires : tie.Need-empty-requires
-empty-requires c κs = search rules
+empty_requires : tie.Need-empty-requires
+empty_requires c κs = search rules
 
-may-protect-requires : tie.Need-may-protect-requires
-may-protect-requires c κs = search rules
+may_protect_requires : tie.Need-may_protect-requires
+may_protect_requires c κs = search rules
 
-set-requires : tie.Need-set-requires
-set-requires c κs = search rules
+set_requires : tie.Need-set-requires
+set_requires c κs = search rules
 
-may-fault-requires : tie.Need-may-fault-requires
-may-fault-requires c κs = search rules
+may_fault_requires : tie.Need-may_fault-requires
+may_fault_requires c κs = search rules
 
-with-requires : tie.Need-with-requires
-with-requires c κs = search rules
+with_requires : tie.Need-with-requires
+with_requires c κs = search rules
 
 returns : tie.Need-returns
 unfolding exceptions_of set_of
 returns c =
-    let s = c.before.before in
-    let x = s.before.before.before.args.x in
-    rw (c.with.ensures, s.set.ensures, s.before.before.empty.ensures, s.before.may-protect.ensures, c.before.may-fault.ensures)
+    let s = c in
+    let x = s.args.x in
+    rw (c.with.ensures, s.set.ensures, s.empty.ensures, s.may_protect.ensures, c.may_fault.ensures)
     (ap (λ (v : ℕ). Done (info_of v)) (two_vectors (may_protect x) (may_fault x)))
 
-pub exceptions-of-spec : {M : Type 1} → statement M
-exceptions-of-spec =
+pub exceptions_of_spec : {M : Type 1} → statement M
+exceptions_of_spec =
     tie.close
     (tie.spec
-    empty-requires
-    may-protect-requires
-    set-requires
-    may-fault-requires
-    with-requires
+    empty_requires
+    may_protect_requires
+    set_requires
+    may_fault_requires
+    with_requires
     returns)

@@ -6,33 +6,33 @@ use borrow.Author.Rules.{rules}
 use Rattle.fixups.proofs.fixed_up.Statement.{statement}
 use Rattle.fixups.proofs.fixed_up.Tie as tie
 
-is-nontrivial-requires : tie.Need-is-nontrivial-requires
-is-nontrivial-requires c κs = search rules
+is_nontrivial_requires : tie.Need-is_nontrivial-requires
+is_nontrivial_requires c κs = search rules
 
-element-copy-out-fix-fields : tie.Need-element-copy-out-fix-fields
-element-copy-out-fix-fields c = search rules
+element_copy_out_fix_fields : tie.Need-bounds-x-0
+element_copy_out_fix_fields c = search rules
 
-element-copy-out-fix-fields-2 : tie.Need-element-copy-out-fix-fields-2
-element-copy-out-fix-fields-2 c = search rules
+element_copy_out_fix_fields_2 : tie.Need-bounds-x-1
+element_copy_out_fix_fields_2 c = search rules
 
-fix-fields-requires : tie.Need-fix-fields-requires
-fix-fields-requires c κs = search rules
+fix_fields_requires : tie.Need-fix_fields-changed-requires
+fix_fields_requires c κs = search rules
 
-returns : tie.Need-returns
+returns : tie.Need-returns-then-is_nontrivial
 unfolding fixed_up digest_of
-returns c = rw (sym c.before.before.before.is-nontrivial.ensures ∙ c.before.before.if1.true, c.fix-fields.ensures ∙ narrow (rule_of c.before.before.before.before.before.args.t1.opcode) c.before.before.before.before.before.args.t1 c.before.before.before.before.before.args.t1.digest)
+returns c = rw (sym c.is_nontrivial.ensures ∙ c.if-is_nontrivial.true, c.fix_fields-changed.ensures ∙ narrow (rule_of c.args.x.opcode) c.args.x c.args.x.digest)
 
-returns-2 : tie.Need-returns-2
+returns_2 : tie.Need-returns
 unfolding fixed_up digest_of
-returns-2 c = rw (sym c.before.is-nontrivial.ensures ∙ c.if1.false)
+returns_2 c = rw (sym c.is_nontrivial.ensures ∙ c.if-is_nontrivial.false)
 
-pub fixed-up-spec : {M : Type 1} → statement M
-fixed-up-spec =
+pub fixed_up_spec : {M : Type 1} → statement M
+fixed_up_spec =
     tie.close
     (tie.spec
-    is-nontrivial-requires
-    element-copy-out-fix-fields
-    element-copy-out-fix-fields-2
-    fix-fields-requires
+    is_nontrivial_requires
+    element_copy_out_fix_fields
+    element_copy_out_fix_fields_2
+    fix_fields_requires
     returns
-    returns-2)
+    returns_2)

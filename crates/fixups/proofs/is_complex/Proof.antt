@@ -8,38 +8,38 @@ use Rattle.definition.specs.Behaviors.{complex}
 use Rattle.fixups.proofs.is_complex.Statement.{statement}
 use Rattle.fixups.proofs.is_complex.Tie as tie
 
-is-complex-requires : tie.Need-is-complex-requires
-is-complex-requires c κs = search rules
+is_complex_requires : tie.Need-is_complex-requires
+is_complex_requires c κs = search rules
 
-returns : tie.Need-returns
+returns : tie.Need-returns-then-not-is_complex
 unfolding complex
-returns c = rw (sym c.before.is_complex_lem.ensures ∙ not-true _ c.if1.true)
+returns c = rw (sym c.is_complex.ensures ∙ c.if-not-is_complex.true)
 
-element-copy-out-result : tie.Need-element-copy-out-result
-element-copy-out-result c = search rules
+element_copy_out_result : tie.Need-bounds-x-0
+element_copy_out_result c = search rules
 
-returns-2 : tie.Need-returns-2
+returns_2 : tie.Need-returns-in-24-to-27
 unfolding complex
-returns-2 c =
-    let s = c.before.before.before in
-    let opcode = s.before.before.before.args.t1.opcode in
-    rw (sym s.before.is_complex_lem.ensures ∙ not-false _ s.if1.false, le-leb 24 opcode (omega arith), le-leb opcode 27 (omega arith))
+returns_2 c =
+    let s = c in
+    let opcode = s.args.x.opcode in
+    rw (sym s.is_complex.ensures ∙ not-false _ s.if-not-is_complex.false, le-leb 24 opcode (omega arith), le-leb opcode 27 (omega arith))
 
-returns-3 : tie.Need-returns-3
+returns_3 : tie.Need-returns-in_default
 unfolding complex
-returns-3 c =
-    let s = c.before in
-    let opcode = s.before.before.before.args.t1.opcode in
-    rw (sym s.before.is_complex_lem.ensures ∙ not-false _ s.if1.false, lt-leb 24 opcode (omega arith))
+returns_3 c =
+    let s = c in
+    let opcode = s.args.x.opcode in
+    rw (sym s.is_complex.ensures ∙ not-false _ s.if-not-is_complex.false, lt-leb 24 opcode (omega arith))
 
-returns-4 : tie.Need-returns-4
+returns_4 : tie.Need-returns-in_default-2
 unfolding complex
-returns-4 c =
-    let s = c.before.before in
-    let opcode = s.before.before.before.args.t1.opcode in
-    rw (sym s.before.is_complex_lem.ensures ∙ not-false _ s.if1.false, lt-leb opcode 27 (omega arith), and-false)
+returns_4 c =
+    let s = c in
+    let opcode = s.args.x.opcode in
+    rw (sym s.is_complex.ensures ∙ not-false _ s.if-not-is_complex.false, lt-leb opcode 27 (omega arith), and-false)
 
-pub is-complex-spec : {M : Type 1} → statement M
-is-complex-spec =
+pub is_complex_spec : {M : Type 1} → statement M
+is_complex_spec =
     tie.close
-    (tie.spec is-complex-requires returns element-copy-out-result returns-2 returns-3 returns-4)
+    (tie.spec is_complex_requires returns element_copy_out_result returns_2 returns_3 returns_4)

@@ -6,15 +6,15 @@ use Rattle.definition.specs.Behaviors.{may_protect}
 use Rattle.fixups.proofs.may_protect.Statement.{statement}
 use Rattle.fixups.proofs.may_protect.Tie as tie
 
-privilege-level-requires : tie.Need-privilege-level-requires
-privilege-level-requires c κs = search rules
+privilege_level_requires : tie.Need-privilege_level-requires
+privilege_level_requires c κs = search rules
 
-to-bits-requires : tie.Need-to-bits-requires
-to-bits-requires c κs = search rules
+to_bits_requires : tie.Need-to_bits-requires
+to_bits_requires c κs = search rules
 
 returns : tie.Need-returns
 unfolding may_protect
-returns c = rw (c.to-bits.ensures, c.before.privilege-level.ensures, level_number_lem (c.before.before.before.args.x.digest.behavior / 1))
+returns c = rw (c.to_bits.ensures, c.privilege_level.ensures, level_number_lem (c.args.x.digest.behavior / 1))
 
-pub may-protect-spec : {M : Type 1} → statement M
-may-protect-spec = tie.close (tie.spec privilege-level-requires to-bits-requires returns)
+pub may_protect_spec : {M : Type 1} → statement M
+may_protect_spec = tie.close (tie.spec privilege_level_requires to_bits_requires returns)

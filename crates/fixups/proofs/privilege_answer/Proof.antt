@@ -13,29 +13,29 @@ use Rattle.fixups.proofs.privilege_answer.Tie as tie
 abbrev read : Record → PrivilegeAnswer
 read x = Done (level_of (privilege_of (digest_of x)))
 
-from-bytes-requires : tie.Need-from-bytes-requires
-from-bytes-requires c κs = search rules
+from_bytes_requires : tie.Need-from_bytes-answer-requires
+from_bytes_requires c κs = search rules
 
-returns : tie.Need-returns
+returns : tie.Need-returns-then-answer-ne0
 unfolding privilege_call
 returns c =
-    let s = c.before.before in
-    when_refused s.before.before.args.b.now s.from_bytes.result s.from_bytes.ensures read Refused c.if1.true
+    let s = c in
+    when_refused s.args.b.now s.from_bytes-answer.result s.from_bytes-answer.ensures read Refused c.if-answer-ne0.true
 
-digest-of-requires : tie.Need-digest-of-requires
-digest-of-requires c κs = search rules
+digest_of_requires : tie.Need-digest_of-requires
+digest_of_requires c κs = search rules
 
-privilege-level-requires : tie.Need-privilege-level-requires
-privilege-level-requires c κs = search rules
+privilege_level_requires : tie.Need-privilege_level-requires
+privilege_level_requires c κs = search rules
 
-returns-2 : tie.Need-returns-2
+returns_2 : tie.Need-returns
 unfolding privilege_call
-returns-2 c =
-    let s = c.before.before.before.before in
-    rw (c.privilege-level.ensures, c.before.digest-of.ensures)
-    (when_read s.before.before.args.b.now s.from_bytes.result s.from_bytes.ensures read Refused c.before.before.if1.false)
+returns_2 c =
+    let s = c in
+    rw (c.privilege_level.ensures, c.digest_of.ensures)
+    (when_read s.args.b.now s.from_bytes-answer.result s.from_bytes-answer.ensures read Refused c.if-answer-ne0.false)
 
-pub privilege-answer-spec : {M : Type 1} → statement M
-privilege-answer-spec =
+pub privilege_answer_spec : {M : Type 1} → statement M
+privilege_answer_spec =
     tie.close
-    (tie.spec from-bytes-requires returns digest-of-requires privilege-level-requires returns-2)
+    (tie.spec from_bytes_requires returns digest_of_requires privilege_level_requires returns_2)

@@ -7,19 +7,19 @@ use Rattle.record.specs.Records.{everyday_bytes, record_bytes, segment_bytes}
 use Rattle.records.proofs.is_length.Statement.{statement}
 use Rattle.records.proofs.is_length.Tie as tie
 
-returns : tie.Need-returns
+returns : tie.Need-returns-then-each-eq-EVERYDAY_BYTES
 unfolding is_in any
-returns c = rw (eq-eqb _ everyday_bytes c.if1.true)
+returns c = rw (eq-eqb _ everyday_bytes c.if-each-eq-EVERYDAY_BYTES.true)
 
-returns-2 : tie.Need-returns-2
+returns_2 : tie.Need-returns-then-each-eq-RECORD_BYTES
 unfolding is_in any
-returns-2 c = rw (ne_eqb _ everyday_bytes c.before.if1.false, eq-eqb _ record_bytes c.if2.true)
+returns_2 c = rw (ne_eqb _ everyday_bytes c.if-each-eq-EVERYDAY_BYTES.false, eq-eqb _ record_bytes c.if-each-eq-RECORD_BYTES.true)
 
-returns-3 : tie.Need-returns-3
+returns_3 : tie.Need-returns
 unfolding is_in any
-returns-3 c =
-    rw (ne_eqb _ everyday_bytes c.before.if1.false, ne_eqb _ record_bytes c.if2.false)
-    (sym (or-false (eqb c.before.before.args.each segment_bytes)))
+returns_3 c =
+    rw (ne_eqb _ everyday_bytes c.if-each-eq-EVERYDAY_BYTES.false, ne_eqb _ record_bytes c.if-each-eq-RECORD_BYTES.false)
+    (sym (or-false (eqb c.args.each segment_bytes)))
 
-pub is-length-spec : {M : Type 1} → statement M
-is-length-spec = tie.close (tie.spec returns returns-2 returns-3)
+pub is_length_spec : {M : Type 1} → statement M
+is_length_spec = tie.close (tie.spec returns returns_2 returns_3)

@@ -9,68 +9,68 @@ use Rattle.address.proofs.NoPlace.{no_place}
 use Rattle.address.proofs.places.implied_place.Statement.{statement}
 use Rattle.address.proofs.places.implied_place.Tie as tie
 
-value-requires : tie.Need-value-requires
-value-requires c κs = search rules
+value_requires : tie.Need-value-requires
+value_requires c κs = search rules
 
-general-requires : tie.Need-general-requires
-general-requires c κs = search rules
+general_requires : tie.Need-general-requires
+general_requires c κs = search rules
 
-general-requires-2 : tie.Need-general-requires-2
-general-requires-2 c κs = search rules
+general_requires_2 : tie.Need-general-requires-in-26
+general_requires_2 c κs = search rules
 
-plus-requires : tie.Need-plus-requires
-plus-requires c κs = search rules
+plus_requires : tie.Need-plus-requires
+plus_requires c κs = search rules
 
-general-requires-3 : tie.Need-general-requires-3
-general-requires-3 c κs = search rules
+general_requires_3 : tie.Need-general-requires-in-27
+general_requires_3 c κs = search rules
 
-general-requires-4 : tie.Need-general-requires-4
-general-requires-4 c κs = search rules
+general_requires_4 : tie.Need-general-requires-in-28
+general_requires_4 c κs = search rules
 
-value-requires-2 : tie.Need-value-requires-2
-value-requires-2 c κs = search rules
+value_requires_2 : tie.Need-value-requires-in-28
+value_requires_2 c κs = search rules
 
-sum-requires : tie.Need-sum-requires
-sum-requires c κs = search rules
+sum_requires : tie.Need-sum-requires
+sum_requires c κs = search rules
 
-returns : tie.Need-returns
+returns : tie.Need-returns-in-15
 unfolding implied_place implicit_of list_place entry_place operand_place signed32 bit
-returns c = rw (c.before.match.keys1, c.value.ensures) (sym (at_register c.before.before.args.f edi))
+returns c = rw (c.in-15.is, c.value.ensures) (sym (at_register c.args.f edi))
 
-returns-2 : tie.Need-returns-2
+returns_2 : tie.Need-returns-in-16
 unfolding implied_place implicit_of list_place entry_place operand_place signed32 bit
-returns-2 c = rw (c.before.match.keys2, c.general.ensures) (sym (at_register c.before.before.args.f rdi))
+returns_2 c = rw (c.in-16.is, c.general.ensures) (sym (at_register c.args.f rdi))
 
-returns-3 : tie.Need-returns-3
+returns_3 : tie.Need-returns-in-26
 unfolding implied_place implicit_of list_place entry_place operand_place signed32 bit
-returns-3 c = rw (c.before.before.match.keys3, c.plus.ensures, c.before.general2.ensures) (sym (at_disp c.before.before.before.args.f rsp 0xFFFFFFFFFFFFFFF8))
+returns_3 c = rw (c.in-26.is, c.plus.ensures, c.general-in-26.ensures) (sym (at_disp c.args.f rsp 0xFFFFFFFFFFFFFFF8))
 
-returns-4 : tie.Need-returns-4
+returns_4 : tie.Need-returns-in-27
 unfolding implied_place implicit_of list_place entry_place operand_place signed32 bit
-returns-4 c = rw (c.before.match.keys4, c.general3.ensures) (sym (at_register c.before.before.args.f rsp))
+returns_4 c = rw (c.in-27.is, c.general-in-27.ensures) (sym (at_register c.args.f rsp))
 
-returns-5 : tie.Need-returns-5
+returns_5 : tie.Need-returns-in-28
 unfolding implied_place implicit_of list_place entry_place operand_place signed32 bit
-returns-5 c = rw (c.before.before.before.match.keys5, c.sum.ensures, c.before.before.general4.ensures, c.before.value2.ensures) (sym (at_both c.before.before.before.before.args.f rbx al 1 ∙ ap (sum_of (value_of c.before.before.before.before.args.f rbx)) (once c.before.before.before.before.args.f al)))
+returns_5 c = rw (c.in-28.is, c.sum.ensures, c.general-in-28.ensures, c.value-in-28.ensures) (sym (at_both c.args.f rbx al 1 ∙ ap (sum_of (value_of c.args.f rbx)) (once c.args.f al)))
 
-returns-6 : tie.Need-returns-6
-returns-6 c = let r = c.match.rest in no_place c.before.args.f c.before.args.list r.0.0.0.0.1 r.0.0.0.1 r.0.0.1 r.0.1 r.1
+returns_6 : tie.Need-returns-in_default
+returns_6 c = let r = c.in_default.in_default-own.rest in no_place c.args.f c.args.list r.0.0.0.0.1 r.0.0.0.1 r.0.0.1 r.0.1 r.1
 
-pub implied-place-spec : {M : Type 1} → statement M
-implied-place-spec =
+pub implied_place_spec : {M : Type 1} → statement M
+implied_place_spec =
     tie.close
     (tie.spec
-    value-requires
-    general-requires
-    general-requires-2
-    plus-requires
-    general-requires-3
-    general-requires-4
-    value-requires-2
-    sum-requires
+    value_requires
+    general_requires
+    general_requires_2
+    plus_requires
+    general_requires_3
+    general_requires_4
+    value_requires_2
+    sum_requires
     returns
-    returns-2
-    returns-3
-    returns-4
-    returns-5
-    returns-6)
+    returns_2
+    returns_3
+    returns_4
+    returns_5
+    returns_6)

@@ -3,44 +3,44 @@ use Rattle.std.proofs.Common.{rules}
 use Rattle.address.proofs.places.resolve.Statement.{statement}
 use Rattle.address.proofs.places.resolve.Tie as tie
 
-element-copy-out-two-values : tie.Need-element-copy-out-two-values
-element-copy-out-two-values c = search rules
+element_copy_out_two_values : tie.Need-bounds-x-1
+element_copy_out_two_values c = search rules
 
-element-copy-out-two-values-2 : tie.Need-element-copy-out-two-values-2
-element-copy-out-two-values-2 c = search rules
+element_copy_out_two_values_2 : tie.Need-bounds-x-2
+element_copy_out_two_values_2 c = search rules
 
-two-values-requires : tie.Need-two-values-requires
-two-values-requires c κs = search rules
+two_values_requires : tie.Need-two_values-two-requires
+two_values_requires c κs = search rules
 
-scaled-requires : tie.Need-scaled-requires
-scaled-requires c κs = search rules
+scaled_requires : tie.Need-scaled-requires
+scaled_requires c κs = search rules
 
-general-requires : tie.Need-general-requires
-general-requires c κs = search rules
+general_requires : tie.Need-general-requires
+general_requires c κs = search rules
 
-general-requires-2 : tie.Need-general-requires-2
-general-requires-2 c κs = search rules
+general_requires_2 : tie.Need-general-requires-2
+general_requires_2 c κs = search rules
 
-implied-place-requires : tie.Need-implied-place-requires
-implied-place-requires c κs = search rules
+implied_place_requires : tie.Need-implied_place-requires
+implied_place_requires c κs = search rules
 
-segment-base-requires : tie.Need-segment-base-requires
-segment-base-requires c κs = search rules
+segment_base_requires : tie.Need-segment_base-requires
+segment_base_requires c κs = search rules
 
 returns : tie.Need-returns
 unfolding sources_of
-returns c = rw (c.before.before.before.before.scaled.ensures, c.before.before.before.before.before.two-values.ensures, c.before.before.before.general.ensures, c.before.before.general2.ensures, c.before.implied-place.ensures, c.segment-base.ensures)
+returns c = rw (c.scaled.ensures, c.two_values-two.ensures, c.general.ensures, c.general-2.ensures, c.implied_place.ensures, c.segment_base.ensures)
 
-pub resolve-spec : {M : Type 1} → statement M
-resolve-spec =
+pub resolve_spec : {M : Type 1} → statement M
+resolve_spec =
     tie.close
     (tie.spec
-    element-copy-out-two-values
-    element-copy-out-two-values-2
-    two-values-requires
-    scaled-requires
-    general-requires
-    general-requires-2
-    implied-place-requires
-    segment-base-requires
+    element_copy_out_two_values
+    element_copy_out_two_values_2
+    two_values_requires
+    scaled_requires
+    general_requires
+    general_requires_2
+    implied_place_requires
+    segment_base_requires
     returns)

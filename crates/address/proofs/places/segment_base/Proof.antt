@@ -3,19 +3,19 @@ use Rattle.definition.specs.Addresses.{segment_register}
 use Rattle.address.proofs.places.segment_base.Statement.{statement}
 use Rattle.address.proofs.places.segment_base.Tie as tie
 
-base-requires : tie.Need-base-requires
-base-requires c κs = search rules
+base_requires : tie.Need-base-requires
+base_requires c κs = search rules
 
-base-requires-2 : tie.Need-base-requires-2
-base-requires-2 c κs = search rules
+base_requires_2 : tie.Need-base-requires-else-segment-eq1
+base_requires_2 c κs = search rules
 
-returns : tie.Need-returns
+returns : tie.Need-returns-then-segment-eq1
 unfolding segment_register
-returns c = rw (eq-eqb _ _ c.before.if1.true) c.base.ensures
+returns c = rw (eq-eqb _ _ c.if-segment-eq1.true) c.base.ensures
 
-returns-2 : tie.Need-returns-2
+returns_2 : tie.Need-returns-else-segment-eq1
 unfolding segment_register
-returns-2 c = rw (ne_eqb _ _ c.before.if1.false) c.base2.ensures
+returns_2 c = rw (ne_eqb _ _ c.if-segment-eq1.false) c.base-else-segment-eq1.ensures
 
-pub segment-base-spec : {M : Type 1} → statement M
-segment-base-spec = tie.close (tie.spec base-requires base-requires-2 returns returns-2)
+pub segment_base_spec : {M : Type 1} → statement M
+segment_base_spec = tie.close (tie.spec base_requires base_requires_2 returns returns_2)

@@ -3,25 +3,25 @@ use Rattle.registers.specs.declared.Value.TheVariants.{Known}
 use Rattle.address.proofs.values.cut.Statement.{statement}
 use Rattle.address.proofs.values.cut.Tie as tie
 
-address-size-in-requires : tie.Need-address-size-in-requires
-address-size-in-requires c κs = search rules
+address_size_in_requires : tie.Need-address_size_in-short-requires
+address_size_in_requires c κs = search rules
 
-enum-known-v : tie.Need-enum-known-v
-enum-known-v c = search rules
+enum_known_v : tie.Need-enum_known-v
+enum_known_v c = search rules
 
-low-if-requires : tie.Need-low-if-requires
-low-if-requires c κs = search rules
+low_if_requires : tie.Need-low_if-requires
+low_if_requires c κs = search rules
 
-enum_told : tie.Need-enum-told
+enum_told : tie.Need-enum_told-1
 enum_told c = search rules
 
-returns : tie.Need-returns
-returns c = rw (c.before.before.v.given.1, ← c.before.before.before.before.address-size-in.ensures) (ap Known c.low-if.ensures)
+returns : tie.Need-returns-in-Known
+returns c = rw (c.in-Known.is, ← c.address_size_in-short.ensures) (ap Known c.low_if.ensures)
 
-returns-2 : tie.Need-returns-2
-returns-2 c = rw c.enum_told.given.1
+returns_2 : tie.Need-returns-in-Unknown
+returns_2 c = rw c.in-Unknown.is
 
 pub cut_spec : {M : Type 1} → statement M
 cut_spec =
     tie.close
-    (tie.spec address-size-in-requires enum-known-v low-if-requires enum_told returns returns-2)
+    (tie.spec address_size_in_requires enum_known_v low_if_requires enum_told returns returns_2)

@@ -3,20 +3,20 @@ use Rattle.registers.specs.declared.Value.TheVariants.{Known}
 use Rattle.address.proofs.values.plus.Statement.{statement}
 use Rattle.address.proofs.values.plus.Tie as tie
 
-enum-known-v : tie.Need-enum-known-v
-enum-known-v c = search rules
+enum_known_v : tie.Need-enum_known-v
+enum_known_v c = search rules
 
-wrapping-add-u64-requires : tie.Need-wrapping-add-u64-requires
-wrapping-add-u64-requires c κs = search rules
+wrapping_add_u64_requires : tie.Need-wrapping_add_u64-requires
+wrapping_add_u64_requires c κs = search rules
 
-enum_told : tie.Need-enum-told
+enum_told : tie.Need-enum_told-1
 enum_told c = search rules
 
-returns : tie.Need-returns
-returns c = rw c.before.before.v.given.1 (ap Known c.wrapping-add-u64.ensures)
+returns : tie.Need-returns-in-Known
+returns c = rw c.in-Known.is (ap Known c.wrapping_add_u64.ensures)
 
-returns-2 : tie.Need-returns-2
-returns-2 c = search rules
+returns_2 : tie.Need-returns-in-Unknown
+returns_2 c = search rules
 
-pub plus-spec : {M : Type 1} → statement M
-plus-spec = tie.close (tie.spec enum-known-v wrapping-add-u64-requires enum_told returns returns-2)
+pub plus_spec : {M : Type 1} → statement M
+plus_spec = tie.close (tie.spec enum_known_v wrapping_add_u64_requires enum_told returns returns_2)

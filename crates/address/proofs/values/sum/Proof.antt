@@ -2,20 +2,20 @@ use Rattle.std.proofs.Common.{rules}
 use Rattle.address.proofs.values.sum.Statement.{statement}
 use Rattle.address.proofs.values.sum.Tie as tie
 
-enum-known-u : tie.Need-enum-known-u
-enum-known-u c = search rules
+enum_known_u : tie.Need-enum_known-u
+enum_known_u c = search rules
 
-plus-requires : tie.Need-plus-requires
-plus-requires c κs = search rules
+plus_requires : tie.Need-plus-requires
+plus_requires c κs = search rules
 
-enum_told : tie.Need-enum-told
+enum_told : tie.Need-enum_told-1
 enum_told c = search rules
 
-returns : tie.Need-returns
-returns c = rw c.before.before.u.given.1 c.plus.ensures
+returns : tie.Need-returns-in-Known
+returns c = rw c.in-Known.is c.plus.ensures
 
-returns-2 : tie.Need-returns-2
-returns-2 c = search rules
+returns_2 : tie.Need-returns-in-Unknown
+returns_2 c = search rules
 
-pub sum-spec : {M : Type 1} → statement M
-sum-spec = tie.close (tie.spec enum-known-u plus-requires enum_told returns returns-2)
+pub sum_spec : {M : Type 1} → statement M
+sum_spec = tie.close (tie.spec enum_known_u plus_requires enum_told returns returns_2)

@@ -2,11 +2,11 @@ use Rattle.std.proofs.Common.{rules}
 use Rattle.address.proofs.words.low_if.Statement.{statement}
 use Rattle.address.proofs.words.low_if.Tie as tie
 
-returns : tie.Need-returns
-returns c = rw c.if1.true
+returns : tie.Need-returns-then-short
+returns c = rw c.if-short.true
 
-returns-2 : tie.Need-returns-2
-returns-2 c = search rules
+returns_2 : tie.Need-returns-else-short
+returns_2 c = search rules
 
-pub low-if-spec : {M : Type 1} → statement M
-low-if-spec = tie.close (tie.spec returns returns-2)
+pub low_if_spec : {M : Type 1} → statement M
+low_if_spec = tie.close (tie.spec returns returns_2)

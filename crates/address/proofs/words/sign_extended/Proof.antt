@@ -4,16 +4,16 @@ use Rattle.definition.specs.Addresses.{signed32}
 use Rattle.address.proofs.words.sign_extended.Statement.{statement}
 use Rattle.address.proofs.words.sign_extended.Tie as tie
 
-add-result : tie.Need-overflow-add-result
-add-result c = search rules
+add_result : tie.Need-overflow_add-result
+add_result c = search rules
 
-returns : tie.Need-returns
+returns : tie.Need-returns-then-low-lt2147483648
 unfolding signed32
-returns c = rw (bit_clear c.before.args.disp 31 (λ e. omega arith), add-zero)
+returns c = rw (bit_clear c.args.disp 31 (λ e. omega arith), add-zero)
 
-returns-2 : tie.Need-returns-2
+returns_2 : tie.Need-returns-else-low-lt2147483648
 unfolding signed32
-returns-2 c = rw (bit_set c.before.args.disp 31 (omega arith))
+returns_2 c = rw (bit_set c.args.disp 31 (omega arith))
 
-pub sign-extended-spec : {M : Type 1} → statement M
-sign-extended-spec = tie.close (tie.spec add-result returns returns-2)
+pub sign_extended_spec : {M : Type 1} → statement M
+sign_extended_spec = tie.close (tie.spec add_result returns returns_2)

@@ -99,20 +99,20 @@ module _ {M : Type 1} {𝓤 : Ura M} (𝓛 : Logic 𝓤) (mem : Memory → SProp
 module _ {M : Type 1} {𝓤 : Ura M} (𝓛 : Logic 𝓤) (mem : Memory → SProp 𝓤) (run : Routine → Fun 𝓤) where
   open 𝓛 use {H}
 
-  hold-walks : (C : Calls 𝓤 H) (Λ : Loops 𝓤 H) → Walks 𝓛 hold.ended stayed (WpFn 𝓤 H C Λ code.function) (hold.clauses 𝓛 mem run)
-  hold-walks C Λ = walked 𝓛 hold.ended stayed (hold.clauses 𝓛 mem run) (WpFn 𝓤 H C Λ code.function) (λ κs. (LL.vals P.the_type P'.the_laws, (shr_slice_vals, tt))) (λ κs. (LL.tells P.the_type P'.the_laws, (shr_slice_Tells (named 0) κs.0 u8, tt)))
+  hold_walks : (C : Calls 𝓤 H) (Λ : Loops 𝓤 H) → Walks 𝓛 hold.ended stayed (WpFn 𝓤 H C Λ code.function) (hold.clauses 𝓛 mem run)
+  hold_walks C Λ = walked 𝓛 hold.ended stayed (hold.clauses 𝓛 mem run) (WpFn 𝓤 H C Λ code.function) (λ κs. (LL.vals P.the_type P'.the_laws, (shr_slice_vals, tt))) (λ κs. (LL.tells P.the_type P'.the_laws, (shr_slice_Tells (named 0) κs.0 u8, tt)))
       (λ κs qs bounds a g are. via 𝓤 _ (fst∗ 𝓤 _ (emp 𝓤)) (walk 𝓛 mem run κs.0 qs.0 a.0 a.1.0 C Λ are.0 are.1.0))
 
-hold-meets : {M : Type 1} {𝓤 : Ura M} (𝓛 : Logic 𝓤) → (mem : Memory → SProp 𝓤) (run : Routine → Fun 𝓤) (𝓣 : Tables 𝓤 𝓛.H)
+hold_meets : {M : Type 1} {𝓤 : Ura M} (𝓛 : Logic 𝓤) → (mem : Memory → SProp 𝓤) (run : Routine → Fun 𝓤) (𝓣 : Tables 𝓤 𝓛.H)
     → Meets 𝓛 hold.signature (WpFn 𝓤 𝓛.H 𝓣.C 𝓣.Λ code.function) (hold.spec 𝓛 mem run)
-hold-meets {𝓤 = 𝓤} 𝓛 mem run 𝓣 =
+hold_meets {𝓤 = 𝓤} 𝓛 mem run 𝓣 =
     walk_Meets 𝓛 hold.ended stayed
     (Goes-none 𝓛 1 (λ _. P.the_row) yes (λ κs x f. refl), (Goes-none_slice 𝓛 1 (0 ∷ []) tt (plain (λ _. u8)) yes, tt))
-    (hold.clauses 𝓛 mem run) (WpFn 𝓤 𝓛.H 𝓣.C 𝓣.Λ code.function) (WpFn-mono 𝓤 𝓛.H 𝓛.laws 𝓣 code.function) (hold-walks 𝓛 mem run 𝓣.C 𝓣.Λ)
+    (hold.clauses 𝓛 mem run) (WpFn 𝓤 𝓛.H 𝓣.C 𝓣.Λ code.function) (WpFn-mono 𝓤 𝓛.H 𝓛.laws 𝓣 code.function) (hold_walks 𝓛 mem run 𝓣.C 𝓣.Λ)
 
-pub hold-spec : {M : Type 1} → stated.statement M
+pub hold_spec : {M : Type 1} → stated.statement M
 unfolding code.routine tables_of
-hold-spec 𝓤 𝓛 𝓜 𝓡 =
+hold_spec 𝓤 𝓛 𝓜 𝓡 =
     entered 𝓤 𝓛.H (triple_of 𝓛 hold.signature (hold.spec 𝓛 𝓜.mem 𝓡.run))
     (tables 𝓤 𝓛.H 𝓜 𝓡 code.env).C (tables 𝓤 𝓛.H 𝓜 𝓡 code.env).Λ #hold code.function (code.unfolded 𝓤 𝓛.H 𝓜 𝓡)
-    (hold-meets 𝓛 𝓜.mem 𝓡.run (tables_of 𝓤 𝓛.H 𝓜 (tables 𝓤 𝓛.H 𝓜 𝓡 code.env)))
+    (hold_meets 𝓛 𝓜.mem 𝓡.run (tables_of 𝓤 𝓛.H 𝓜 (tables 𝓤 𝓛.H 𝓜 𝓡 code.env)))

@@ -5,80 +5,80 @@ use borrow.Author.Rules.{rules}
 use Rattle.difference.proofs.logs.part_logs.Statement.{statement}
 use Rattle.difference.proofs.logs.part_logs.Tie as tie
 
-count-events-requires : tie.Need-count-events-requires
-count-events-requires c κs = search rules
+count_events_requires : tie.Need-count_events-read-requires
+count_events_requires c κs = search rules
 
-enum_told : tie.Need-enum-told
+enum_told : tie.Need-enum_told-1
 enum_told c = search rules
 
-enum-told-2 : tie.Need-enum-told-2
-enum-told-2 c = search rules
+enum_told_2 : tie.Need-enum_told-in_default
+enum_told_2 c = search rules
 
-refused-requires : tie.Need-refused-requires
-refused-requires c κs = search rules
+refused_requires : tie.Need-refused-requires
+refused_requires c κs = search rules
 
-returns : tie.Need-returns
+returns : tie.Need-returns-in_default
 returns c =
-    let r = c.before.before.before in
-    let s = r.before.before.before in
-    c.refused.ensures ∙ first_refused s.args.first.now s.args.second.now r.count-events.ensures c.before.enum-told2.given.1
+    let r = c.before.before.before.before.before in
+    let s = r in
+    c.refused.ensures ∙ first_refused s.args.first.now s.args.second.now r.count-events.ensures c.in_default.is
 
-count-events-requires-2 : tie.Need-count-events-requires-2
-count-events-requires-2 c κs = search rules
+count_events_requires_2 : tie.Need-count_events-read-requires-2
+count_events_requires_2 c κs = search rules
 
-enum-told-3 : tie.Need-enum-told-3
-enum-told-3 c = search rules
+enum_told_3 : tie.Need-enum_told-in-All-read
+enum_told_3 c = search rules
 
-enum-told-4 : tie.Need-enum-told-4
-enum-told-4 c = search rules
+enum_told_4 : tie.Need-enum_told-in_default-read
+enum_told_4 c = search rules
 
-refused-requires-2 : tie.Need-refused-requires-2
-refused-requires-2 c κs = search rules
+refused_requires_2 : tie.Need-refused-requires-in_default-read
+refused_requires_2 c κs = search rules
 
-returns-2 : tie.Need-returns-2
-returns-2 c =
-    let q = c.before.before.before in
-    let e = q.before in
-    let r = e.before.before in
-    let s = r.before.before.before in
-    c.refused2.ensures
+returns_2 : tie.Need-returns-in_default-read
+returns_2 c =
+    let q = c.before.before.before.before.before.before.before in
+    let e = q in
+    let r = e in
+    let s = r in
+    c.refused-in_default-read.ensures
     ∙ second_refused s.args.first.now s.args.second.now r.count-events.ensures e.enum_told.given.1
-    q.count-events2.ensures c.before.enum-told4.given.1
+    q.count-events2.ensures c.in_default-read.is
 
-shared-end-requires : tie.Need-shared-end-requires
-shared-end-requires c κs = search rules
+shared_end_requires : tie.Need-shared_end-at-requires
+shared_end_requires c κs = search rules
 
-goes-on-requires : tie.Need-goes-on-requires
-goes-on-requires c κs = search rules
+goes_on_requires : tie.Need-goes_on-requires
+goes_on_requires c κs = search rules
 
-goes-on-requires-2 : tie.Need-goes-on-requires-2
-goes-on-requires-2 c κs = search rules
+goes_on_requires_2 : tie.Need-goes_on-requires-2
+goes_on_requires_2 c κs = search rules
 
-returns-3 : tie.Need-returns-3
-returns-3 c =
-    let f = c.before.before.before in
-    let q = f.before.before in
-    let e = q.before in
-    let r = e.before.before in
-    let s = r.before.before.before in
+returns_3 : tie.Need-returns
+returns_3 c =
+    let f = c.before.before.before.before.before.before.before.before.before in
+    let q = f in
+    let e = q in
+    let r = e in
+    let s = r in
     compared s.args.first.now s.args.second.now r.count-events.ensures e.enum_told.given.1
-    q.count-events2.ensures f.enum-told3.given.1 c.before.before.shared-end.ensures.0 c.before.goes_on_lem.ensures c.goes-on2.ensures
+    q.count-events2.ensures f.enum-told3.given.1 c.shared_end-at.ensures.0 c.goes_on.ensures c.goes_on-2.ensures
 
-pub part-logs-spec : {M : Type 1} → statement M
-part-logs-spec =
+pub part_logs_spec : {M : Type 1} → statement M
+part_logs_spec =
     tie.close
     (tie.spec
-    count-events-requires
+    count_events_requires
     enum_told
-    enum-told-2
-    refused-requires
+    enum_told_2
+    refused_requires
     returns
-    count-events-requires-2
-    enum-told-3
-    enum-told-4
-    refused-requires-2
-    returns-2
-    shared-end-requires
-    goes-on-requires
-    goes-on-requires-2
-    returns-3)
+    count_events_requires_2
+    enum_told_3
+    enum_told_4
+    refused_requires_2
+    returns_2
+    shared_end_requires
+    goes_on_requires
+    goes_on_requires_2
+    returns_3)

@@ -5,16 +5,16 @@ use borrow.Author.Rules.{rules}
 use Rattle.difference.proofs.logs.parting.Statement.{statement}
 use Rattle.difference.proofs.logs.parting.Tie as tie
 
-part-logs-requires : tie.Need-part-logs-requires
-part-logs-requires c κs = search rules
+part_logs_requires : tie.Need-part_logs-requires
+part_logs_requires c κs = search rules
 
-tail-requires : tie.Need-tail-requires
-tail-requires c κs = search rules
+tail_requires : tie.Need-tail-requires
+tail_requires c κs = search rules
 
 returns : tie.Need-returns
 returns c =
-    let s = c.before.before.before.before in
-    c.tail.ensures ∙ tail_is s.args.first.now s.args.second.now c.before.part-logs.ensures
+    let s = c in
+    c.tail.ensures ∙ tail_is s.args.first.now s.args.second.now c.part_logs.ensures
 
-pub parting-spec : {M : Type 1} → statement M
-parting-spec = tie.close (tie.spec part-logs-requires tail-requires returns)
+pub parting_spec : {M : Type 1} → statement M
+parting_spec = tie.close (tie.spec part_logs_requires tail_requires returns)

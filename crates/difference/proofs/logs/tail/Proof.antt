@@ -5,39 +5,39 @@ use borrow.Author.Rules.{rules}
 use Rattle.difference.proofs.logs.tail.Statement.{statement}
 use Rattle.difference.proofs.logs.tail.Tie as tie
 
-sub-result : tie.Need-overflow-sub-result
-sub-result c = search rules
+sub_result : tie.Need-slice_bounds-result-count
+sub_result c = search rules
 
-part-result-start : tie.Need-slice-bounds-result-start
-part-result-start c = search rules
+part_result_start : tie.Need-slice_bounds-result-start
+part_result_start c = search rules
 
-part-result-end : tie.Need-slice-bounds-result-end
-part-result-end c = search rules
+part_result_end : tie.Need-slice_bounds-result-end
+part_result_end c = search rules
 
-returns : tie.Need-returns
-returns c = none_past c.before.before.args.log.now _ c.before.if1.true
+returns : tie.Need-returns-then-log-at
+returns c = none_past c.args.log.now _ c.if-log-at.true
 
-sub-result-2 : tie.Need-overflow-sub-result-2
-sub-result-2 c = search rules
+sub_result_2 : tie.Need-slice_bounds-result-count-2
+sub_result_2 c = search rules
 
-part-result-start-2 : tie.Need-slice-bounds-result-start-2
-part-result-start-2 c = search rules
+part_result_start_2 : tie.Need-slice_bounds-result-start-2
+part_result_start_2 c = search rules
 
-part-result-end-2 : tie.Need-slice-bounds-result-end-2
-part-result-end-2 c = search rules
+part_result_end_2 : tie.Need-slice_bounds-result-end-2
+part_result_end_2 c = search rules
 
-returns-2 : tie.Need-returns-2
-returns-2 c = part_is c.before.before.args.log.now c.before.before.args.parted.at
+returns_2 : tie.Need-returns
+returns_2 c = part_is c.args.log.now c.args.parted.at
 
-pub tail-spec : {M : Type 1} → statement M
-tail-spec =
+pub tail_spec : {M : Type 1} → statement M
+tail_spec =
     tie.close
     (tie.spec
-    sub-result
-    part-result-start
-    part-result-end
+    sub_result
+    part_result_start
+    part_result_end
     returns
-    sub-result-2
-    part-result-start-2
-    part-result-end-2
-    returns-2)
+    sub_result_2
+    part_result_start_2
+    part_result_end_2
+    returns_2)

@@ -14,109 +14,109 @@ use Rattle.difference.proofs.Walks.{ahead, begins, first_stops, second_stops, pa
 use Rattle.difference.proofs.walk.shared_end.Statement.{statement}
 use Rattle.difference.proofs.walk.shared_end.Tie as tie
 
-abbrev invariant-loop : tie.invariant-loop
+abbrev invariant-loop : tie.invariant-loop-d
 invariant-loop first second at₀ at = (at ≤ length second) × (parting_at (events_in (whole_of first)) (events_in (whole_of second)) ≡ ahead first second at)
 
-abbrev decreases-loop : tie.decreases-loop
+abbrev decreases-loop : tie.decreases-loop-d
 decreases-loop first second at₀ at = length second - at
 
-loop-holds : tie.Need-loop-init invariant-loop decreases-loop
-loop-holds c = (zero-le, begins c.before.before.args.first.now c.before.before.args.second.now 0 refl)
+loop_holds : tie.Need-loop-d-init invariant-loop decreases-loop
+loop_holds c = (zero-le, begins c.args.first.now c.args.second.now 0 refl)
 
-read-event-requires : tie.Need-read-event-requires invariant-loop decreases-loop
-read-event-requires c κs = tt
+read_event_requires : tie.Need-read_event-requires invariant-loop decreases-loop
+read_event_requires c κs = tt
 
-enum-known-d : tie.Need-enum-known-d invariant-loop decreases-loop
-enum-known-d c = search rules
+enum_known_d : tie.Need-enum_known-d invariant-loop decreases-loop
+enum_known_d c = search rules
 
 -- the first log has no event there
-returns : tie.Need-returns invariant-loop decreases-loop
+returns : tie.Need-returns-in_default invariant-loop decreases-loop
 returns c =
-    let l = c.before.before in
-    let s = l.before.before.before in
-    (sym (l.loop.invariant.1 ∙ first_stops s.args.first.now s.args.second.now l.loop.at _ c.before.read-event.ensures c.match.keys2), l.loop.invariant.0)
+    let l = c.before.before.before.before.before in
+    let s = l in
+    (sym (l.loop.invariant.1 ∙ first_stops s.args.first.now s.args.second.now l.loop.at _ c.read_event.ensures c.in_default.in_default-own.keys2), l.loop.invariant.0)
 
-read-event-requires-2 : tie.Need-read-event-requires-2 invariant-loop decreases-loop
-read-event-requires-2 c κs = tt
+read_event_requires_2 : tie.Need-read_event-requires-in-loop-d invariant-loop decreases-loop
+read_event_requires_2 c κs = tt
 
-enum-known-e : tie.Need-enum-known-e invariant-loop decreases-loop
-enum-known-e c = search rules
+enum_known_e : tie.Need-enum_known-e invariant-loop decreases-loop
+enum_known_e c = search rules
 
 -- the second log has none
-returns-2 : tie.Need-returns-2 invariant-loop decreases-loop
-returns-2 c =
-    let d = c.before.before.before in
-    let r = d.before.before in
-    let l = r.before in
-    let s = l.before.before.before in
+returns_2 : tie.Need-returns-in_default-read_event invariant-loop decreases-loop
+returns_2 c =
+    let d = c.before.before.before.before.before.before.before in
+    let r = d in
+    let l = r in
+    let s = l in
     let first = sym r.read-event.ensures ∙ d.d.given.1 in (
-      sym (l.loop.invariant.1 ∙ second_stops s.args.first.now s.args.second.now l.loop.at _ first _ c.before.read-event2.ensures c.match2.keys2),
+      sym (l.loop.invariant.1 ∙ second_stops s.args.first.now s.args.second.now l.loop.at _ first _ c.read_event-in-loop-d.ensures c.in_default-read_event.in_default-read_event-own.keys2),
       l.loop.invariant.0,
     )
 
-same-event-requires : tie.Need-same-event-requires invariant-loop decreases-loop
-same-event-requires c κs = tt
+same_event_requires : tie.Need-same_event-requires invariant-loop decreases-loop
+same_event_requires c κs = tt
 
 -- an event of each log was read, and they are the same: that of the second ends further on, within it
 found :
-    (c : tie.Then1 invariant-loop decreases-loop) →
-    let e = c.before.before.before in
-    let l = e.before.before.before.before.before.before.before in
-    let s = l.before.before.before in read_at s.args.second.now l.loop.at ≡ Found e.e.given.0.0 e.e.given.0.1.0
-found c = let e = c.before.before.before in sym e.before.before.read-event2.ensures ∙ e.e.given.1
+    (c : tie.Then-same_event invariant-loop decreases-loop) →
+    let e = c.before.before.before.before.before.before.before.before.before in
+    let l = e in
+    let s = l in read_at s.args.second.now l.loop.at ≡ Found e.e.given.0.0 e.e.given.0.1.0
+found c = let e = c in sym e.read_event-in-loop-d.ensures ∙ e.in-Found-read_event.is
 
 further :
-    (c : tie.Then1 invariant-loop decreases-loop) →
-    let e = c.before.before.before in
-    let l = e.before.before.before.before.before.before.before in
-    let s = l.before.before.before in (l.loop.at < e.e.given.0.1.0) × (e.e.given.0.1.0 ≤ length s.args.second.now)
+    (c : tie.Then-same_event invariant-loop decreases-loop) →
+    let e = c.before.before.before.before.before.before.before.before.before in
+    let l = e in
+    let s = l in (l.loop.at < e.e.given.0.1.0) × (e.e.given.0.1.0 ≤ length s.args.second.now)
 further c =
-    let l = c.before.before.before.before.before.before.before.before.before.before in
-    let s = l.before.before.before in
+    let l = c.before.before.before.before.before.before.before.before.before in
+    let s = l in
     subst (Moves s.args.second.now l.loop.at) (found c) (goes_on_lem s.args.second.now l.loop.at)
 
-loop-less : tie.Need-loop-smaller invariant-loop decreases-loop
-loop-less c = let m = further c in omega arith
+loop_less : tie.Need-loop-d-smaller invariant-loop decreases-loop
+loop_less c = let m = further c in omega arith
 
-loop-again : tie.Need-loop-preserved invariant-loop decreases-loop
-loop-again c =
-    let d = c.before.before.before.before.before.before.before in
-    let r = d.before.before in
-    let l = r.before in
-    let s = l.before.before.before in
+loop_again : tie.Need-loop-d-preserved invariant-loop decreases-loop
+loop_again c =
+    let d = c.before.before.before.before.before.before.before.before.before in
+    let r = d in
+    let l = r in
+    let s = l in
     let first = sym r.read-event.ensures ∙ d.d.given.1 in (
       (further c).1,
-      l.loop.invariant.1 ∙ both s.args.first.now s.args.second.now l.loop.at _ first _ (found c) (sym c.before.same-event.ensures ∙ c.if1.true),
+      l.loop.invariant.1 ∙ both s.args.first.now s.args.second.now l.loop.at _ first _ (found c) (sym c.same_event.ensures ∙ c.if-same_event.true),
     )
 
 -- they differ
-returns-3 : tie.Need-returns-3 invariant-loop decreases-loop
-returns-3 c =
-    let e = c.before.before.before in
-    let d = e.before.before.before.before in
-    let r = d.before.before in
-    let l = r.before in
-    let s = l.before.before.before in
+returns_3 : tie.Need-returns-else-same_event invariant-loop decreases-loop
+returns_3 c =
+    let e = c.before.before.before.before.before.before.before.before.before in
+    let d = e in
+    let r = d in
+    let l = r in
+    let s = l in
     let first = sym r.read-event.ensures ∙ d.d.given.1 in
-    let second = sym e.before.before.read-event2.ensures ∙ e.e.given.1 in (
-      sym (l.loop.invariant.1 ∙ parts s.args.first.now s.args.second.now l.loop.at _ first _ second (sym c.before.same-event.ensures ∙ c.if1.false)),
+    let second = sym e.read-event2.ensures ∙ e.e.given.1 in (
+      sym (l.loop.invariant.1 ∙ parts s.args.first.now s.args.second.now l.loop.at _ first _ second (sym c.same_event.ensures ∙ c.if-same_event.false)),
       l.loop.invariant.0,
     )
 
-pub shared-end-spec : {M : Type 1} → statement M
-shared-end-spec =
+pub shared_end_spec : {M : Type 1} → statement M
+shared_end_spec =
     tie.close
     (tie.spec
     invariant-loop
     decreases-loop
-    loop-holds
-    read-event-requires
-    enum-known-d
+    loop_holds
+    read_event_requires
+    enum_known_d
     returns
-    read-event-requires-2
-    enum-known-e
-    returns-2
-    same-event-requires
-    loop-less
-    loop-again
-    returns-3)
+    read_event_requires_2
+    enum_known_e
+    returns_2
+    same_event_requires
+    loop_less
+    loop_again
+    returns_3)

@@ -8,25 +8,25 @@ use Rattle.definition.specs.Readings.{body_of}
 use Rattle.event.proofs.reader.body_of.Statement.{statement}
 use Rattle.event.proofs.reader.body_of.Tie as tie
 
-returns : tie.Need-returns
+returns : tie.Need-returns-in-1-to-2
 unfolding body_of
-returns c = span_is body_of 2 1 2 (tt, (tt, tt)) c.before.before.args.kind (omega arith) (omega arith)
+returns c = span_is body_of 2 1 2 (tt, (tt, tt)) c.args.kind (omega arith) (omega arith)
 
-returns-2 : tie.Need-returns-2
+returns_2 : tie.Need-returns-in-3-to-4
 unfolding body_of
-returns-2 c = span_is body_of 9 3 2 (tt, (tt, tt)) c.before.before.before.args.kind (omega arith) (omega arith)
+returns_2 c = span_is body_of 9 3 2 (tt, (tt, tt)) c.args.kind (omega arith) (omega arith)
 
-returns-3 : tie.Need-returns-3
+returns_3 : tie.Need-returns-in-5-to-6
 unfolding body_of
-returns-3 c = span_is body_of 1 5 2 (tt, (tt, tt)) c.before.before.before.before.args.kind (omega arith) (omega arith)
+returns_3 c = span_is body_of 1 5 2 (tt, (tt, tt)) c.args.kind (omega arith) (omega arith)
 
-returns-4 : tie.Need-returns-4
+returns_4 : tie.Need-returns-in_default
 unfolding body_of
-returns-4 c = span_is body_of 0 0 1 (tt, tt) c.before.args.kind (omega arith) (omega arith)
+returns_4 c = span_is body_of 0 0 1 (tt, tt) c.args.kind (omega arith) (omega arith)
 
-returns-5 : tie.Need-returns-5
+returns_5 : tie.Need-returns-in_default-2
 unfolding body_of
-returns-5 c = sym (get_or-eq_default (0 ∷ 2 ∷ 2 ∷ 9 ∷ 9 ∷ 1 ∷ 1 ∷ []) 0 {n = c.before.before.before.before.args.kind} (omega arith))
+returns_5 c = sym (get_or-eq_default (0 ∷ 2 ∷ 2 ∷ 9 ∷ 9 ∷ 1 ∷ 1 ∷ []) 0 {n = c.args.kind} (omega arith))
 
-pub body-of-spec : {M : Type 1} → statement M
-body-of-spec = tie.close (tie.spec returns returns-2 returns-3 returns-4 returns-5)
+pub body_of_spec : {M : Type 1} → statement M
+body_of_spec = tie.close (tie.spec returns returns_2 returns_3 returns_4 returns_5)

@@ -12,86 +12,86 @@ use Rattle.event.proofs.Fronts.{events}
 use Rattle.event.proofs.reader.front_event.Statement.{statement}
 use Rattle.event.proofs.reader.front_event.Tie as tie
 
-shared-slice-read-kind : tie.Need-shared-slice-read-kind
-shared-slice-read-kind c = search rules
+shared_slice_read_kind : tie.Need-bounds-log-0
+shared_slice_read_kind c = search rules
 
-register-at-requires : tie.Need-register-at-requires
+register_at_requires : tie.Need-register_at-requires
 unfolding body_of
-register-at-requires c κs = rw c.match.keys1 at c.before.before.before.requires
+register_at_requires c κs = rw c.in-1.is at c.requires
 
-register-at-requires-2 : tie.Need-register-at-requires-2
+register_at_requires_2 : tie.Need-register_at-requires-in-2
 unfolding body_of
-register-at-requires-2 c κs = rw c.match.keys2 at c.before.before.before.requires
+register_at_requires_2 c κs = rw c.in-2.is at c.requires
 
-u64-at-requires : tie.Need-u64-at-requires
+u64_at_requires : tie.Need-u64_at-requires
 unfolding body_of
-u64-at-requires c κs = le_of_lt (rw c.match.keys3 at c.before.before.before.requires)
+u64_at_requires c κs = le_of_lt (rw c.in-3.is at c.requires)
 
-shared-slice-read-t10 : tie.Need-shared-slice-read-t10
+shared_slice_read_t10 : tie.Need-bounds-log-9
 unfolding body_of
-shared-slice-read-t10 c = rw c.before.before.match.keys3 at c.before.before.before.before.before.requires
+shared_slice_read_t10 c = rw c.in-3.is at c.requires
 
-u64-at-requires-2 : tie.Need-u64-at-requires-2
+u64_at_requires_2 : tie.Need-u64_at-requires-in-4
 unfolding body_of
-u64-at-requires-2 c κs = le_of_lt (rw c.match.keys4 at c.before.before.before.requires)
+u64_at_requires_2 c κs = le_of_lt (rw c.in-4.is at c.requires)
 
-shared-slice-read-t13 : tie.Need-shared-slice-read-t13
+shared_slice_read_t13 : tie.Need-bounds-log-9-in-4
 unfolding body_of
-shared-slice-read-t13 c = rw c.before.before.match.keys4 at c.before.before.before.before.before.requires
+shared_slice_read_t13 c = rw c.in-4.is at c.requires
 
-shared-slice-read-t15 : tie.Need-shared-slice-read-t15
+shared_slice_read_t15 : tie.Need-bounds-log-1
 unfolding body_of
-shared-slice-read-t15 c = rw c.before.match.keys5 at c.before.before.before.before.requires
+shared_slice_read_t15 c = rw c.in-5.is at c.requires
 
-shared-slice-read-t17 : tie.Need-shared-slice-read-t17
+shared_slice_read_t17 : tie.Need-bounds-log-1-in-6
 unfolding body_of
-shared-slice-read-t17 c = rw c.before.match.keys6 at c.before.before.before.before.requires
+shared_slice_read_t17 c = rw c.in-6.is at c.requires
 
-returns : tie.Need-returns
+returns : tie.Need-returns-in-1
 unfolding front_event
-returns c = rw c.before.match.keys1 (ap RegisterRead c.register-at.ensures)
+returns c = rw c.in-1.is (ap RegisterRead c.register_at.ensures)
 
-returns-2 : tie.Need-returns-2
+returns_2 : tie.Need-returns-in-2
 unfolding front_event
-returns-2 c = rw c.before.match.keys2 (ap RegisterWrite c.register-at2.ensures)
+returns_2 c = rw c.in-2.is (ap RegisterWrite c.register_at-in-2.ensures)
 
-returns-3 : tie.Need-returns-3
+returns_3 : tie.Need-returns-in-3
 unfolding front_event
-returns-3 c = rw c.before.before.match.keys3 (ap (λ (a : ℕ). MemoryRead a (get_or c.before.before.before.before.before.args.log.now 9 0)) c.before.u64-at.ensures)
+returns_3 c = rw c.in-3.is (ap (λ (a : ℕ). MemoryRead a (get_or c.args.log.now 9 0)) c.u64_at.ensures)
 
-returns-4 : tie.Need-returns-4
+returns_4 : tie.Need-returns-in-4
 unfolding front_event
-returns-4 c = rw c.before.before.match.keys4 (ap (λ (a : ℕ). MemoryWrite a (get_or c.before.before.before.before.before.args.log.now 9 0)) c.before.u64-at2.ensures)
+returns_4 c = rw c.in-4.is (ap (λ (a : ℕ). MemoryWrite a (get_or c.args.log.now 9 0)) c.u64_at-in-4.ensures)
 
-returns-5 : tie.Need-returns-5
+returns_5 : tie.Need-returns-in-5
 unfolding front_event
-returns-5 c = rw c.before.match.keys5
+returns_5 c = rw c.in-5.is
 
-returns-6 : tie.Need-returns-6
+returns_6 : tie.Need-returns-in-6
 unfolding front_event
-returns-6 c = rw c.before.match.keys6
+returns_6 c = rw c.in-6.is
 
-returns-7 : tie.Need-returns-7
+returns_7 : tie.Need-returns-in_default
 unfolding front_event
-returns-7 c = sym (others (events c.before.before.before.args.log.now) (UnknownRead 0) (get_or c.before.before.before.args.log.now 0 0) (inr refl, (inl c.match.rest.0.0.0.0.0.1, (inl c.match.rest.0.0.0.0.1, (inl c.match.rest.0.0.0.1, (inl c.match.rest.0.0.1, (inl c.match.rest.0.1, (inl c.match.rest.1, tt))))))))
+returns_7 c = sym (others (events c.args.log.now) (UnknownRead 0) (get_or c.args.log.now 0 0) (inr refl, (inl c.in_default.in_default-own.rest.0.0.0.0.0.1, (inl c.in_default.in_default-own.rest.0.0.0.0.1, (inl c.in_default.in_default-own.rest.0.0.0.1, (inl c.in_default.in_default-own.rest.0.0.1, (inl c.in_default.in_default-own.rest.0.1, (inl c.in_default.in_default-own.rest.1, tt))))))))
 
-pub front-event-spec : {M : Type 1} → statement M
-front-event-spec =
+pub front_event_spec : {M : Type 1} → statement M
+front_event_spec =
     tie.close
     (tie.spec
-    shared-slice-read-kind
-    register-at-requires
-    register-at-requires-2
-    u64-at-requires
-    shared-slice-read-t10
-    u64-at-requires-2
-    shared-slice-read-t13
-    shared-slice-read-t15
-    shared-slice-read-t17
+    shared_slice_read_kind
+    register_at_requires
+    register_at_requires_2
+    u64_at_requires
+    shared_slice_read_t10
+    u64_at_requires_2
+    shared_slice_read_t13
+    shared_slice_read_t15
+    shared_slice_read_t17
     returns
-    returns-2
-    returns-3
-    returns-4
-    returns-5
-    returns-6
-    returns-7)
+    returns_2
+    returns_3
+    returns_4
+    returns_5
+    returns_6
+    returns_7)

@@ -4,85 +4,85 @@ use Rattle.definition.specs.Readings.{is_event}
 use Rattle.event.proofs.reader.is_event.Statement.{statement}
 use Rattle.event.proofs.reader.is_event.Tie as tie
 
-enum-known-e : tie.Need-enum-known-e
-enum-known-e c = search rules
+enum_known_e : tie.Need-enum_known-e
+enum_known_e c = search rules
 
-is-logged-requires : tie.Need-is-logged-requires
-is-logged-requires c κs = search rules
+is_logged_requires : tie.Need-is_logged-requires
+is_logged_requires c κs = search rules
 
-enum-known-e-2 : tie.Need-enum-known-e-2
-enum-known-e-2 c = search rules
+enum_known_e_2 : tie.Need-enum_known-e-in-RegisterWrite-1
+enum_known_e_2 c = search rules
 
-is-logged-requires-2 : tie.Need-is-logged-requires-2
-is-logged-requires-2 c κs = search rules
+is_logged_requires_2 : tie.Need-is_logged-requires-in-RegisterWrite
+is_logged_requires_2 c κs = search rules
 
-enum-known-e-3 : tie.Need-enum-known-e-3
-enum-known-e-3 c = search rules
+enum_known_e_3 : tie.Need-enum_known-e-in-MemoryRead-1
+enum_known_e_3 c = search rules
 
-is-size-requires : tie.Need-is-size-requires
-is-size-requires c κs = search rules
+is_size_requires : tie.Need-is_size-requires
+is_size_requires c κs = search rules
 
-enum-known-e-4 : tie.Need-enum-known-e-4
-enum-known-e-4 c = search rules
+enum_known_e_4 : tie.Need-enum_known-e-in-MemoryWrite-1
+enum_known_e_4 c = search rules
 
-is-size-requires-2 : tie.Need-is-size-requires-2
-is-size-requires-2 c κs = search rules
+is_size_requires_2 : tie.Need-is_size-requires-in-MemoryWrite
+is_size_requires_2 c κs = search rules
 
-enum-known-e-5 : tie.Need-enum-known-e-5
-enum-known-e-5 c = search rules
+enum_known_e_5 : tie.Need-enum_known-e-in-UnknownRead-1
+enum_known_e_5 c = search rules
 
-is-size-requires-3 : tie.Need-is-size-requires-3
-is-size-requires-3 c κs = search rules
+is_size_requires_3 : tie.Need-is_size-requires-in-UnknownRead
+is_size_requires_3 c κs = search rules
 
-enum-known-e-6 : tie.Need-enum-known-e-6
-enum-known-e-6 c = search rules
+enum_known_e_6 : tie.Need-enum_known-e-in-UnknownWrite-1
+enum_known_e_6 c = search rules
 
-is-size-requires-4 : tie.Need-is-size-requires-4
-is-size-requires-4 c κs = search rules
+is_size_requires_4 : tie.Need-is_size-requires-in-UnknownWrite
+is_size_requires_4 c κs = search rules
 
-returns : tie.Need-returns
+returns : tie.Need-returns-in-RegisterRead
 unfolding is_event
-returns c = rw c.before.before.e.given.1 c.is-logged.ensures
+returns c = rw c.in-RegisterRead.is c.is_logged.ensures
 
-returns-2 : tie.Need-returns-2
+returns_2 : tie.Need-returns-in-RegisterWrite
 unfolding is_event
-returns-2 c = rw c.before.before.e2.given.1 c.is-logged2.ensures
+returns_2 c = rw c.in-RegisterWrite.is c.is_logged-in-RegisterWrite.ensures
 
-returns-3 : tie.Need-returns-3
+returns_3 : tie.Need-returns-in-MemoryRead
 unfolding is_event
-returns-3 c = rw c.before.before.e3.given.1 c.is-size.ensures
+returns_3 c = rw c.in-MemoryRead.is c.is_size.ensures
 
-returns-4 : tie.Need-returns-4
+returns_4 : tie.Need-returns-in-MemoryWrite
 unfolding is_event
-returns-4 c = rw c.before.before.e4.given.1 c.is-size2.ensures
+returns_4 c = rw c.in-MemoryWrite.is c.is_size-in-MemoryWrite.ensures
 
-returns-5 : tie.Need-returns-5
+returns_5 : tie.Need-returns-in-UnknownRead
 unfolding is_event
-returns-5 c = rw c.before.before.e5.given.1 c.is-size3.ensures
+returns_5 c = rw c.in-UnknownRead.is c.is_size-in-UnknownRead.ensures
 
-returns-6 : tie.Need-returns-6
+returns_6 : tie.Need-returns-in-UnknownWrite
 unfolding is_event
-returns-6 c = rw c.before.before.e6.given.1 c.is-size4.ensures
+returns_6 c = rw c.in-UnknownWrite.is c.is_size-in-UnknownWrite.ensures
 
-pub is-event-spec : {M : Type 1} → statement M
-is-event-spec =
+pub is_event_spec : {M : Type 1} → statement M
+is_event_spec =
     tie.close
     (tie.spec
-    enum-known-e
-    is-logged-requires
-    enum-known-e-2
-    is-logged-requires-2
-    enum-known-e-3
-    is-size-requires
-    enum-known-e-4
-    is-size-requires-2
-    enum-known-e-5
-    is-size-requires-3
-    enum-known-e-6
-    is-size-requires-4
+    enum_known_e
+    is_logged_requires
+    enum_known_e_2
+    is_logged_requires_2
+    enum_known_e_3
+    is_size_requires
+    enum_known_e_4
+    is_size_requires_2
+    enum_known_e_5
+    is_size_requires_3
+    enum_known_e_6
+    is_size_requires_4
     returns
-    returns-2
-    returns-3
-    returns-4
-    returns-5
-    returns-6)
+    returns_2
+    returns_3
+    returns_4
+    returns_5
+    returns_6)

@@ -8,59 +8,59 @@ use Rattle.event.proofs.Fronts.{Moves, goes_on_lem, finished, from_part}
 use Rattle.event.proofs.reader.read_event.Statement.{statement}
 use Rattle.event.proofs.reader.read_event.Tie as tie
 
-returns : tie.Need-returns
-returns c = sym (finished c.before.before.args.log.now c.before.before.args.at c.if1.true)
+returns : tie.Need-returns-then-log-at
+returns c = sym (finished c.args.log.now c.args.at c.if-log-at.true)
 
-sub-read-front : tie.Need-overflow-sub-read-front
-sub-read-front c = search rules
+sub_read_front : tie.Need-slice_bounds-read_front-count
+sub_read_front c = search rules
 
-part-read-front-start : tie.Need-slice-bounds-read-front-start
-part-read-front-start c = search rules
+part_read_front_start : tie.Need-slice_bounds-read_front-start
+part_read_front_start c = search rules
 
-part-read-front-end : tie.Need-slice-bounds-read-front-end
-part-read-front-end c = search rules
+part_read_front_end : tie.Need-slice_bounds-read_front-end
+part_read_front_end c = search rules
 
-read-front-requires : tie.Need-read-front-requires
-read-front-requires c κs = search rules
+read_front_requires : tie.Need-read_front-r-requires
+read_front_requires c κs = search rules
 
-enum-known-r : tie.Need-enum-known-r
-enum-known-r c = search rules
+enum_known_r : tie.Need-enum_known-r
+enum_known_r c = search rules
 
-returns-2 : tie.Need-returns-2
-returns-2 c = rw c.before.r.given.1 at (from_part c.before.before.before.before.before.before.before.args.log.now c.before.before.before.before.before.before.before.args.at c.before.before.before.read-front.ensures)
+returns_2 : tie.Need-returns-in-Found
+returns_2 c = rw c.in-Found.is at (from_part c.args.log.now c.args.at c.read_front-r.ensures)
 
-add-t13 : tie.Need-overflow-add-t13
-add-t13 c =
-    let l = c.before.before.before.before.before.before.before.args.log.now in
-    let at = c.before.before.before.before.before.before.before.args.at in
-    let m : (at < at + c.before.r.given.0.1.0) × (at + c.before.r.given.0.1.0 ≤ length l) = subst (Moves l at) (sym (returns-2 c)) (goes_on_lem l at) in
+add_t13 : tie.Need-overflow_add-result
+add_t13 c =
+    let l = c.args.log.now in
+    let at = c.args.at in
+    let m : (at < at + c.in-Found.n) × (at + c.in-Found.n ≤ length l) = subst (Moves l at) (sym (returns_2 c)) (goes_on_lem l at) in
     omega arith
 
-enum-known-r-2 : tie.Need-enum-known-r-2
-enum-known-r-2 c = search rules
+enum_known_r_2 : tie.Need-enum_known-r-in-Bad-1
+enum_known_r_2 c = search rules
 
-enum_told : tie.Need-enum-told
+enum_told : tie.Need-enum_told-1
 enum_told c = search rules
 
-returns-3 : tie.Need-returns-3
-returns-3 c = rw c.before.r2.given.1 at (from_part c.before.before.before.before.before.before.before.args.log.now c.before.before.before.before.before.before.before.args.at c.before.before.before.read-front.ensures)
+returns_3 : tie.Need-returns-in-Bad
+returns_3 c = rw c.in-Bad.is at (from_part c.args.log.now c.args.at c.read_front-r.ensures)
 
-returns-4 : tie.Need-returns-4
-returns-4 c = rw c.enum_told.given.1 at (from_part c.before.before.before.before.before.before.args.log.now c.before.before.before.before.before.before.args.at c.before.before.read-front.ensures)
+returns_4 : tie.Need-returns-in-Finished
+returns_4 c = rw c.in-Finished.is at (from_part c.args.log.now c.args.at c.read_front-r.ensures)
 
-pub read-event-spec : {M : Type 1} → statement M
-read-event-spec =
+pub read_event_spec : {M : Type 1} → statement M
+read_event_spec =
     tie.close
     (tie.spec
     returns
-    sub-read-front
-    part-read-front-start
-    part-read-front-end
-    read-front-requires
-    enum-known-r
-    add-t13
-    enum-known-r-2
+    sub_read_front
+    part_read_front_start
+    part_read_front_end
+    read_front_requires
+    enum_known_r
+    add_t13
+    enum_known_r_2
     enum_told
-    returns-2
-    returns-3
-    returns-4)
+    returns_2
+    returns_3
+    returns_4)

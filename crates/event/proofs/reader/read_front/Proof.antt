@@ -6,51 +6,51 @@ use Rattle.event.proofs.Fronts.{front_empty, front_unknown, front_cut, front_who
 use Rattle.event.proofs.reader.read_front.Statement.{statement}
 use Rattle.event.proofs.reader.read_front.Tie as tie
 
-returns : tie.Need-returns
-returns c = sym (front_empty c.before.before.args.log.now c.if1.true)
+returns : tie.Need-returns-then-log-eq0
+returns c = sym (front_empty c.args.log.now c.if-log-eq0.true)
 
-shared-slice-read-body-of : tie.Need-shared-slice-read-body-of
-shared-slice-read-body-of c = search rules
+shared_slice_read_body_of : tie.Need-bounds-log-0
+shared_slice_read_body_of c = search rules
 
-body-of-requires : tie.Need-body-of-requires
-body-of-requires c κs = search rules
+body_of_requires : tie.Need-body_of-body-requires
+body_of_requires c κs = search rules
 
-returns-2 : tie.Need-returns-2
-returns-2 c = sym (front_unknown c.before.before.before.before.before.args.log.now c.before.body_of.ensures c.if2.true (omega arith))
+returns_2 : tie.Need-returns-then-body-eq0
+returns_2 c = sym (front_unknown c.args.log.now c.body_of-body.ensures c.if-body-eq0.true (omega arith))
 
-sub-if3 : tie.Need-overflow-sub-if3
-sub-if3 c = search rules
+sub_if3 : tie.Need-overflow_sub-log
+sub_if3 c = search rules
 
-returns-3 : tie.Need-returns-3
-returns-3 c = sym (front_cut c.before.before.before.before.before.before.args.log.now c.before.before.body_of.ensures c.before.if2.false (omega arith) (omega arith))
+returns_3 : tie.Need-returns-then-log-body
+returns_3 c = sym (front_cut c.args.log.now c.body_of-body.ensures c.if-body-eq0.false (omega arith) (omega arith))
 
-front-event-requires : tie.Need-front-event-requires
-front-event-requires c κs = search rules
+front_event_requires : tie.Need-front_event-e-requires
+front_event_requires c κs = search rules
 
-is-event-requires : tie.Need-is-event-requires
-is-event-requires c κs = search rules
+is_event_requires : tie.Need-is_event-requires
+is_event_requires c κs = search rules
 
-add-t11 : tie.Need-overflow-add-t11
-add-t11 c = search rules
+add_t11 : tie.Need-overflow_add-result
+add_t11 c = search rules
 
-returns-4 : tie.Need-returns-4
-returns-4 c = rw c.if4.true at (front_whole c.before.before.before.before.before.before.before.before.before.args.log.now c.before.before.before.before.before.body_of.ensures c.before.before.before.before.if2.false (omega arith) c.before.before.front-event.ensures c.before.is-event.ensures)
+returns_4 : tie.Need-returns-then-is_event
+returns_4 c = rw c.if-is_event.true at (front_whole c.args.log.now c.body_of-body.ensures c.if-body-eq0.false (omega arith) c.front_event-e.ensures c.is_event.ensures)
 
-returns-5 : tie.Need-returns-5
-returns-5 c = rw c.if4.false at (front_whole c.before.before.before.before.before.before.before.before.before.args.log.now c.before.before.before.before.before.body_of.ensures c.before.before.before.before.if2.false (omega arith) c.before.before.front-event.ensures c.before.is-event.ensures)
+returns_5 : tie.Need-returns-else-is_event
+returns_5 c = rw c.if-is_event.false at (front_whole c.args.log.now c.body_of-body.ensures c.if-body-eq0.false (omega arith) c.front_event-e.ensures c.is_event.ensures)
 
-pub read-front-spec : {M : Type 1} → statement M
-read-front-spec =
+pub read_front_spec : {M : Type 1} → statement M
+read_front_spec =
     tie.close
     (tie.spec
     returns
-    shared-slice-read-body-of
-    body-of-requires
-    returns-2
-    sub-if3
-    returns-3
-    front-event-requires
-    is-event-requires
-    add-t11
-    returns-4
-    returns-5)
+    shared_slice_read_body_of
+    body_of_requires
+    returns_2
+    sub_if3
+    returns_3
+    front_event_requires
+    is_event_requires
+    add_t11
+    returns_4
+    returns_5)

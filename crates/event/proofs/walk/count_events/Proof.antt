@@ -14,74 +14,74 @@ use Rattle.event.proofs.Walks.{whole_at, turn, after, after_none, after_one, sto
 use Rattle.event.proofs.walk.count_events.Statement.{statement}
 use Rattle.event.proofs.walk.count_events.Tie as tie
 
-abbrev invariant-loop : tie.invariant-loop
+abbrev invariant-loop : tie.invariant-loop-next
 invariant-loop log at₀ n₀ at n = (at ≤ length log) × (n ≤ at) × (counted_of log ≡ after n (whole_at log at))
 
-abbrev decreases-loop : tie.decreases-loop
+abbrev decreases-loop : tie.decreases-loop-next
 decreases-loop log at₀ n₀ at n = length log - at
 
-loop-holds : tie.Need-loop-init invariant-loop decreases-loop
+loop_holds : tie.Need-loop-next-init invariant-loop decreases-loop
 unfolding counted_of
-loop-holds c = (zero-le, zero-le, after_none (whole_of c.before.args.log.now))
+loop_holds c = (zero-le, zero-le, after_none (whole_of c.args.log.now))
 
-read-event-requires : tie.Need-read-event-requires invariant-loop decreases-loop
-read-event-requires c κs = tt
+read_event_requires : tie.Need-read_event-r-requires invariant-loop decreases-loop
+read_event_requires c κs = tt
 
-enum-known-r : tie.Need-enum-known-r invariant-loop decreases-loop
-enum-known-r c = search rules
+enum_known_r : tie.Need-enum_known-r invariant-loop decreases-loop
+enum_known_r c = search rules
 
-ended-requires : tie.Need-ended-requires invariant-loop decreases-loop
-ended-requires c κs = tt
+ended_requires : tie.Need-ended-requires invariant-loop decreases-loop
+ended_requires c κs = tt
 
-returns : tie.Need-returns invariant-loop decreases-loop
+returns : tie.Need-returns-in_default invariant-loop decreases-loop
 returns c =
-    let l = c.before.before.before.loop in
-    let log = c.before.before.before.before.before.args.log.now in
+    let l = c.loop-next in
+    let log = c.args.log.now in
     c.ended.ensures
-    ∙ stopped c.before.before.read-event.result (whole_at log) l.n c.before.match.keys2
-    ∙ ap (λ (r : Reading). after l.n (onward r (whole_at log))) c.before.before.read-event.ensures
+    ∙ stopped c.read_event-r.result (whole_at log) l.n c.in_default.in_default-own.keys2
+    ∙ ap (λ (r : Reading). after l.n (onward r (whole_at log))) c.read_event-r.ensures
     ∙ sym (l.invariant.2 ∙ ap (after l.n) (turn log l.at))
 
 -- the event that was read ends further on, within the log
 read :
-    (c : tie.After-known-told invariant-loop decreases-loop)
-    → read_at c.before.before.before.before.before.before.args.log.now c.before.before.before.before.loop.at ≡ Found c.before.r.given.0.0 c.before.r.given.0.1.0
-read c = sym c.before.before.before.read-event.ensures ∙ c.before.r.given.1
+    (c : tie.In-Found invariant-loop decreases-loop)
+    → read_at c.args.log.now c.loop-next.at ≡ Found c.in-Found.field-0 c.in-Found.next
+read c = sym c.read_event-r.ensures ∙ c.in-Found.is
 
 further :
-    (c : tie.After-known-told invariant-loop decreases-loop)
-    → (c.before.before.before.before.loop.at < c.before.r.given.0.1.0) × (c.before.r.given.0.1.0 ≤ length c.before.before.before.before.before.before.args.log.now)
+    (c : tie.In-Found invariant-loop decreases-loop)
+    → (c.loop-next.at < c.in-Found.next) × (c.in-Found.next ≤ length c.args.log.now)
 further c =
-    let log = c.before.before.before.before.before.before.args.log.now in
-    let at = c.before.before.before.before.loop.at in
+    let log = c.args.log.now in
+    let at = c.loop-next.at in
     subst (Moves log at) (read c) (goes_on_lem log at)
 
-add-n : tie.Need-overflow-add-n invariant-loop decreases-loop
-add-n c = let m = further c in omega arith
+add_n : tie.Need-overflow_add-n invariant-loop decreases-loop
+add_n c = let m = further c in omega arith
 
-loop-less : tie.Need-loop-smaller invariant-loop decreases-loop
-loop-less c = let m = further c in omega arith
+loop_less : tie.Need-loop-next-smaller invariant-loop decreases-loop
+loop_less c = let m = further c in omega arith
 
-loop-again : tie.Need-loop-preserved invariant-loop decreases-loop
-loop-again c =
-    let l = c.before.before.before.before.loop in
-    let log = c.before.before.before.before.before.before.args.log.now in
+loop_again : tie.Need-loop-next-preserved invariant-loop decreases-loop
+loop_again c =
+    let l = c.loop-next in
+    let log = c.args.log.now in
     let m = further c in
-    let next = c.before.r.given.0.1.0 in
-    let e = c.before.r.given.0.0 in
+    let next = c.in-Found.next in
+    let e = c.in-Found.field-0 in
     (m.1, omega arith, l.invariant.2 ∙ ap (after l.n) (turn log l.at ∙ ap (λ (r : Reading). onward r (whole_at log)) (read c)) ∙ after_one e l.n (whole_at log next))
 
-pub count-events-spec : {M : Type 1} → statement M
-count-events-spec =
+pub count_events_spec : {M : Type 1} → statement M
+count_events_spec =
     tie.close
     (tie.spec
     invariant-loop
     decreases-loop
-    loop-holds
-    read-event-requires
-    enum-known-r
-    ended-requires
+    loop_holds
+    read_event_requires
+    enum_known_r
+    ended_requires
     returns
-    add-n
-    loop-less
-    loop-again)
+    add_n
+    loop_less
+    loop_again)

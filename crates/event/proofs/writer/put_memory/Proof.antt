@@ -9,71 +9,71 @@ use borrow.Author.Rules.{rules}
 use Rattle.event.proofs.writer.put_memory.Statement.{statement}
 use Rattle.event.proofs.writer.put_memory.Tie as tie
 
-enum-known-at : tie.Need-enum-known-at
-enum-known-at c = search rules
+enum_known_at : tie.Need-enum_known-at
+enum_known_at c = search rules
 
-kind-of-requires : tie.Need-kind-of-requires
-kind-of-requires c κs = search rules
+kind_of_requires : tie.Need-kind_of-requires
+kind_of_requires c κs = search rules
 
-slice-write-log : tie.Need-slice-write-log
-slice-write-log c = omega (arith, (known_room c.before.before.before.before.before.args.way c.before.before.at.given.0.0 c.before.before.before.before.before.args.n (rw c.before.before.at.given.1 at c.before.before.before.before.before.requires)))
+slice_write_log : tie.Need-bounds-log-0
+slice_write_log c = omega (arith, (known_room c.args.way c.in-Known.a c.args.n (rw c.in-Known.is at c.requires)))
 
-sub-put-u64 : tie.Need-overflow-sub-put-u64
-sub-put-u64 c = simp length-set (omega (arith, (known_room c.before.before.before.before.before.args.way c.before.before.at.given.0.0 c.before.before.before.before.before.args.n (rw c.before.before.at.given.1 at c.before.before.before.before.before.requires))))
+sub_put_u64 : tie.Need-slice_bounds-put_u64-count
+sub_put_u64 c = simp length-set (omega (arith, (known_room c.args.way c.in-Known.a c.args.n (rw c.in-Known.is at c.requires))))
 
-part-put-u64-start : tie.Need-slice-bounds-put-u64-start
-part-put-u64-start c = simp length-set (omega (arith, (known_room c.before.before.before.before.before.args.way c.before.before.at.given.0.0 c.before.before.before.before.before.args.n (rw c.before.before.at.given.1 at c.before.before.before.before.before.requires))))
+part_put_u64_start : tie.Need-slice_bounds-put_u64-start
+part_put_u64_start c = simp length-set (omega (arith, (known_room c.args.way c.in-Known.a c.args.n (rw c.in-Known.is at c.requires))))
 
-part-put-u64-end : tie.Need-slice-bounds-put-u64-end
-part-put-u64-end c = search rules
+part_put_u64_end : tie.Need-slice_bounds-put_u64-end
+part_put_u64_end c = search rules
 
-put-u64-requires : tie.Need-put-u64-requires
-put-u64-requires c κs = simp (length-take, length-drop, length-set) (omega (arith, (known_room c.before.before.before.before.before.before.args.way c.before.before.before.at.given.0.0 c.before.before.before.before.before.before.args.n (rw c.before.before.before.at.given.1 at c.before.before.before.before.before.before.requires))))
+put_u64_requires : tie.Need-put_u64-requires
+put_u64_requires c κs = simp (length-take, length-drop, length-set) (omega (arith, (known_room c.args.way c.in-Known.a c.args.n (rw c.in-Known.is at c.requires))))
 
-slice-write-log-2 : tie.Need-slice-write-log-2
-slice-write-log-2 c = omega (arith, (known_room c.before.before.before.before.before.before.before.before.before.args.way c.before.before.before.before.before.before.at.given.0.0 c.before.before.before.before.before.before.before.before.before.args.n (rw c.before.before.before.before.before.before.at.given.1 at c.before.before.before.before.before.before.before.before.before.requires)), keeps_length c.before.before.before.before.kind-of.result c.before.before.before.before.before.before.at.given.0.0 c.before.before.before.before.before.before.before.before.before.args.log.now (known_room c.before.before.before.before.before.before.before.before.before.args.way c.before.before.before.before.before.before.at.given.0.0 c.before.before.before.before.before.before.before.before.before.args.n (rw c.before.before.before.before.before.before.at.given.1 at c.before.before.before.before.before.before.before.before.before.requires)) c.before.before.put-u64.ensures)
+slice_write_log_2 : tie.Need-bounds-log-9
+slice_write_log_2 c = omega (arith, (known_room c.args.way c.in-Known.a c.args.n (rw c.in-Known.is at c.requires)), keeps_length c.kind_of.result c.in-Known.a c.args.log.now (known_room c.args.way c.in-Known.a c.args.n (rw c.in-Known.is at c.requires)) c.put_u64.ensures)
 
-enum_told : tie.Need-enum-told
+enum_told : tie.Need-enum_told-1
 enum_told c = search rules
 
-kind-of-requires-2 : tie.Need-kind-of-requires-2
-kind-of-requires-2 c κs = search rules
+kind_of_requires_2 : tie.Need-kind_of-requires-in-Unknown
+kind_of_requires_2 c κs = search rules
 
-slice-write-log-3 : tie.Need-slice-write-log-3
-slice-write-log-3 c = omega (arith, (unknown_room c.before.before.before.before.args.way c.before.before.before.before.args.n (rw c.before.enum_told.given.1 at c.before.before.before.before.requires)))
+slice_write_log_3 : tie.Need-bounds-log-0-in-Unknown
+slice_write_log_3 c = omega (arith, (unknown_room c.args.way c.args.n (rw c.in-Unknown.is at c.requires)))
 
-slice-write-log-4 : tie.Need-slice-write-log-4
-slice-write-log-4 c = simp length-set (omega (arith, (unknown_room c.before.before.before.before.args.way c.before.before.before.before.args.n (rw c.before.enum_told.given.1 at c.before.before.before.before.requires))))
+slice_write_log_4 : tie.Need-bounds-log-1
+slice_write_log_4 c = simp length-set (omega (arith, (unknown_room c.args.way c.args.n (rw c.in-Unknown.is at c.requires))))
 
-same_length : tie.Need-same-length
-same_length c = known_length c.before.before.before.before.kind-of.result c.before.before.before.before.before.before.at.given.0.0 c.before.before.before.before.before.before.before.before.before.args.log.now (known_room c.before.before.before.before.before.before.before.before.before.args.way c.before.before.before.before.before.before.at.given.0.0 c.before.before.before.before.before.before.before.before.before.args.n (rw c.before.before.before.before.before.before.at.given.1 at c.before.before.before.before.before.before.before.before.before.requires)) c.before.before.put-u64.ensures c.before.before.before.before.before.before.before.before.before.args.n
+same_length : tie.Need-shape_of-log-in-Known
+same_length c = known_length c.kind_of.result c.in-Known.a c.args.log.now (known_room c.args.way c.in-Known.a c.args.n (rw c.in-Known.is at c.requires)) c.put_u64.ensures c.args.n
 
-returns : tie.Need-returns
-returns c = rw c.before.before.before.before.before.before.at.given.1 (known_logged c.before.before.before.before.before.before.before.before.before.args.way c.before.before.before.before.before.before.at.given.0.0 c.before.before.before.before.before.before.before.before.before.args.n c.before.before.before.before.kind-of.ensures refl (known_bytes c.before.before.before.before.kind-of.result c.before.before.before.before.before.before.at.given.0.0 c.before.before.before.before.before.before.before.before.before.args.log.now (known_room c.before.before.before.before.before.before.before.before.before.args.way c.before.before.before.before.before.before.at.given.0.0 c.before.before.before.before.before.before.before.before.before.args.n (rw c.before.before.before.before.before.before.at.given.1 at c.before.before.before.before.before.before.before.before.before.requires)) c.before.before.put-u64.ensures c.before.before.before.before.before.before.before.before.before.args.n))
+returns : tie.Need-returns-in-Known
+returns c = rw c.in-Known.is (known_logged c.args.way c.in-Known.a c.args.n c.kind_of.ensures refl (known_bytes c.kind_of.result c.in-Known.a c.args.log.now (known_room c.args.way c.in-Known.a c.args.n (rw c.in-Known.is at c.requires)) c.put_u64.ensures c.args.n))
 
-same-length-2 : tie.Need-same-length-2
-same-length-2 c = search rules
+same_length_2 : tie.Need-shape_of-log-in-Unknown
+same_length_2 c = search rules
 
-returns-2 : tie.Need-returns-2
-returns-2 c = rw c.before.enum_told.given.1 (unknown_logged c.before.before.before.before.args.way c.before.before.before.before.args.n c.kind-of2.ensures refl (sets-eq (unknown_bytes c.kind-of2.result c.before.before.before.before.args.n) c.before.before.before.before.args.log.now 0 (unknown_room c.before.before.before.before.args.way c.before.before.before.before.args.n (rw c.before.enum_told.given.1 at c.before.before.before.before.requires))))
+returns_2 : tie.Need-returns-in-Unknown
+returns_2 c = rw c.in-Unknown.is (unknown_logged c.args.way c.args.n c.kind_of-in-Unknown.ensures refl (sets-eq (unknown_bytes c.kind_of-in-Unknown.result c.args.n) c.args.log.now 0 (unknown_room c.args.way c.args.n (rw c.in-Unknown.is at c.requires))))
 
-pub put-memory-spec : {M : Type 1} → statement M
-put-memory-spec =
+pub put_memory_spec : {M : Type 1} → statement M
+put_memory_spec =
     tie.close
     (tie.spec
-    enum-known-at
-    kind-of-requires
-    slice-write-log
-    sub-put-u64
-    part-put-u64-start
-    part-put-u64-end
-    put-u64-requires
-    slice-write-log-2
+    enum_known_at
+    kind_of_requires
+    slice_write_log
+    sub_put_u64
+    part_put_u64_start
+    part_put_u64_end
+    put_u64_requires
+    slice_write_log_2
     enum_told
-    kind-of-requires-2
-    slice-write-log-3
-    slice-write-log-4
+    kind_of_requires_2
+    slice_write_log_3
+    slice_write_log_4
     same_length
     returns
-    same-length-2
-    returns-2)
+    same_length_2
+    returns_2)

@@ -8,31 +8,31 @@ use borrow.Author.Rules.{rules}
 use Rattle.event.proofs.writer.put_register.Statement.{statement}
 use Rattle.event.proofs.writer.put_register.Tie as tie
 
-kind-of-requires : tie.Need-kind-of-requires
-kind-of-requires c κs = search rules
+kind_of_requires : tie.Need-kind_of-requires
+kind_of_requires c κs = search rules
 
-slice-write-log : tie.Need-slice-write-log
-slice-write-log c = omega (arith, move_room c.before.before.args.way c.before.before.args.y c.before.before.requires)
+slice_write_log : tie.Need-bounds-log-0
+slice_write_log c = omega (arith, move_room c.args.way c.args.y c.requires)
 
-slice-write-log-2 : tie.Need-slice-write-log-2
-slice-write-log-2 c = simp length-set (omega (arith, move_room c.before.before.args.way c.before.before.args.y c.before.before.requires))
+slice_write_log_2 : tie.Need-bounds-log-1
+slice_write_log_2 c = simp length-set (omega (arith, move_room c.args.way c.args.y c.requires))
 
-slice-write-log-3 : tie.Need-slice-write-log-3
-slice-write-log-3 c = simp length-set (omega (arith, move_room c.before.before.args.way c.before.before.args.y c.before.before.requires))
+slice_write_log_3 : tie.Need-bounds-log-2
+slice_write_log_3 c = simp length-set (omega (arith, move_room c.args.way c.args.y c.requires))
 
-same_length : tie.Need-same-length
+same_length : tie.Need-shape_of-log
 same_length c = search rules
 
 returns : tie.Need-returns
-returns c = move_logged c.before.before.args.way c.before.before.args.y c.kind-of.ensures refl (sets-eq (register_bytes c.kind-of.result c.before.before.args.y) c.before.before.args.log.now 0 (move_room c.before.before.args.way c.before.before.args.y c.before.before.requires))
+returns c = move_logged c.args.way c.args.y c.kind_of.ensures refl (sets-eq (register_bytes c.kind_of.result c.args.y) c.args.log.now 0 (move_room c.args.way c.args.y c.requires))
 
-pub put-register-spec : {M : Type 1} → statement M
-put-register-spec =
+pub put_register_spec : {M : Type 1} → statement M
+put_register_spec =
     tie.close
     (tie.spec
-    kind-of-requires
-    slice-write-log
-    slice-write-log-2
-    slice-write-log-3
+    kind_of_requires
+    slice_write_log
+    slice_write_log_2
+    slice_write_log_3
     same_length
     returns)

@@ -8,41 +8,41 @@ use Rattle.definition.specs.Behaviors.{may_fault}
 use Rattle.fixups.proofs.memory.may_fault.Statement.{statement}
 use Rattle.fixups.proofs.memory.may_fault.Tie as tie
 
-is-complex-requires : tie.Need-is-complex-requires
-is-complex-requires c κs = search rules
+is_complex_requires : tie.Need-is_complex-requires
+is_complex_requires c κs = search rules
 
-returns : tie.Need-returns
+returns : tie.Need-returns-then-is_complex
 unfolding may_fault
-returns c = sym (any_here (λ (t : Bool). t) _ _ (sym c.before.is_complex_lem.ensures ∙ c.if1.true))
+returns c = sym (any_here (λ (t : Bool). t) _ _ (sym c.is_complex.ensures ∙ c.if-is_complex.true))
 
-lists-memory-requires : tie.Need-lists-memory-requires
-lists-memory-requires c κs = search rules
+lists_memory_requires : tie.Need-lists_memory-requires
+lists_memory_requires c κs = search rules
 
-returns-2 : tie.Need-returns-2
+returns_2 : tie.Need-returns-then-lists_memory
 unfolding may_fault
-returns-2 c =
-    let s = c.before.before.before in
+returns_2 c =
+    let s = c in
     sym
-    (any_later (λ (t : Bool). t) _ _ (sym s.before.is_complex_lem.ensures ∙ s.if1.false)
-    ∙ any_here (λ (t : Bool). t) _ _ (sym c.before.lists-memory.ensures ∙ c.if2.true))
+    (any_later (λ (t : Bool). t) _ _ (sym s.is_complex.ensures ∙ s.if-is_complex.false)
+    ∙ any_here (λ (t : Bool). t) _ _ (sym c.lists_memory.ensures ∙ c.if-lists_memory.true))
 
-names-memory-requires : tie.Need-names-memory-requires
-names-memory-requires c κs = search rules
+names_memory_requires : tie.Need-names_memory-requires
+names_memory_requires c κs = search rules
 
-returns-3 : tie.Need-returns-3
+returns_3 : tie.Need-returns
 unfolding may_fault any
-returns-3 c =
-    let s = c.before.before.before.before in
-    rw (sym s.before.is_complex_lem.ensures ∙ s.if1.false, sym c.before.before.lists-memory.ensures ∙ c.before.if2.false, or-false)
-    c.names-memory.ensures
+returns_3 c =
+    let s = c in
+    rw (sym s.is_complex.ensures ∙ s.if-is_complex.false, sym c.lists_memory.ensures ∙ c.if-lists_memory.false, or-false)
+    c.names_memory.ensures
 
-pub may-fault-spec : {M : Type 1} → statement M
-may-fault-spec =
+pub may_fault_spec : {M : Type 1} → statement M
+may_fault_spec =
     tie.close
     (tie.spec
-    is-complex-requires
+    is_complex_requires
     returns
-    lists-memory-requires
-    returns-2
-    names-memory-requires
-    returns-3)
+    lists_memory_requires
+    returns_2
+    names_memory_requires
+    returns_3)

@@ -4,17 +4,17 @@ use borrow.Author.Tests.{lt-ltb, le-ltb}
 use Rattle.fixups.proofs.memory.memory_at.Statement.{statement}
 use Rattle.fixups.proofs.memory.memory_at.Tie as tie
 
-spec-requires : tie.Need-spec-requires
-spec-requires c κs = search rules
+spec_requires : tie.Need-spec-requires
+spec_requires c κs = search rules
 
-is-memory-requires : tie.Need-is-memory-requires
-is-memory-requires c κs = search rules
+is_memory_requires : tie.Need-is_memory-requires
+is_memory_requires c κs = search rules
 
-returns : tie.Need-returns
-returns c = rw (lt-ltb _ _ c.before.before.if1.true, c.is-memory.ensures, c.before.spec.ensures)
+returns : tie.Need-returns-then-i-x
+returns c = rw (lt-ltb _ _ c.if-i-x.true, c.is_memory.ensures, c.spec.ensures)
 
-returns-2 : tie.Need-returns-2
-returns-2 c = rw (le-ltb _ _ c.if1.false)
+returns_2 : tie.Need-returns-else-i-x
+returns_2 c = rw (le-ltb _ _ c.if-i-x.false)
 
-pub memory-at-spec : {M : Type 1} → statement M
-memory-at-spec = tie.close (tie.spec spec-requires is-memory-requires returns returns-2)
+pub memory_at_spec : {M : Type 1} → statement M
+memory_at_spec = tie.close (tie.spec spec_requires is_memory_requires returns returns_2)

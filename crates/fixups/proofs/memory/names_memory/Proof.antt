@@ -5,30 +5,30 @@ use Rattle.definition.proofs.Operands.{some_operand}
 use Rattle.fixups.proofs.memory.names_memory.Statement.{statement}
 use Rattle.fixups.proofs.memory.names_memory.Tie as tie
 
-memory-at-requires : tie.Need-memory-at-requires
-memory-at-requires c κs = search rules
+memory_at_requires : tie.Need-memory_at-requires
+memory_at_requires c κs = search rules
 
-memory-at-requires-2 : tie.Need-memory-at-requires-2
-memory-at-requires-2 c κs = search rules
+memory_at_requires_2 : tie.Need-memory_at-requires-2
+memory_at_requires_2 c κs = search rules
 
-memory-at-requires-3 : tie.Need-memory-at-requires-3
-memory-at-requires-3 c κs = search rules
+memory_at_requires_3 : tie.Need-memory_at-requires-3
+memory_at_requires_3 c κs = search rules
 
-memory-at-requires-4 : tie.Need-memory-at-requires-4
-memory-at-requires-4 c κs = search rules
+memory_at_requires_4 : tie.Need-memory_at-requires-4
+memory_at_requires_4 c κs = search rules
 
 returns : tie.Need-returns
 returns c =
-    let x = c.before.before.before.before.args.x in
-    rw (c.before.before.before.memory-at.ensures, c.before.before.memory-at2.ensures, c.before.memory-at3.ensures, c.memory-at4.ensures)
+    let x = c.args.x in
+    rw (c.memory_at.ensures, c.memory_at-2.ensures, c.memory_at-3.ensures, c.memory_at-4.ensures)
     (some_operand (λ (o : Operand). is_memory o.shape) x)
 
-pub names-memory-spec : {M : Type 1} → statement M
-names-memory-spec =
+pub names_memory_spec : {M : Type 1} → statement M
+names_memory_spec =
     tie.close
     (tie.spec
-    memory-at-requires
-    memory-at-requires-2
-    memory-at-requires-3
-    memory-at-requires-4
+    memory_at_requires
+    memory_at_requires_2
+    memory_at_requires_3
+    memory_at_requires_4
     returns)

@@ -4,12 +4,12 @@ use Rattle.definition.specs.Behaviors.{fix_up}
 use Rattle.fixups.proofs.rules.fix_cmpxchg.Statement.{statement}
 use Rattle.fixups.proofs.rules.fix_cmpxchg.Tie as tie
 
-by-width-requires : tie.Need-by-width-requires
-by-width-requires c κs = search rules
+by_width_requires : tie.Need-by_width-requires
+by_width_requires c κs = search rules
 
 returns : tie.Need-returns
 unfolding fix_up
 returns c = c.by_width.ensures
 
-pub fix-cmpxchg-spec : {M : Type 1} → statement M
-fix-cmpxchg-spec = tie.close (tie.spec by-width-requires returns)
+pub fix_cmpxchg_spec : {M : Type 1} → statement M
+fix_cmpxchg_spec = tie.close (tie.spec by_width_requires returns)

@@ -6,20 +6,20 @@ use Rattle.definition.specs.Behaviors.{fix_up}
 use Rattle.fixups.proofs.rules.fix_extrq.Statement.{statement}
 use Rattle.fixups.proofs.rules.fix_extrq.Tie as tie
 
-with-access-requires : tie.Need-with-access-requires
-with-access-requires c κs = search rules
+with_access_requires : tie.Need-with_access-requires
+with_access_requires c κs = search rules
 
-returns : tie.Need-returns
+returns : tie.Need-returns-then-x-gt2
 unfolding fix_up
 returns c =
-    let count = c.before.before.before.before.args.x.count in
-    rw (lt-ltb 2 count (omega arith)) c.with-access.ensures
+    let count = c.args.x.count in
+    rw (lt-ltb 2 count (omega arith)) c.with_access.ensures
 
-returns-2 : tie.Need-returns-2
+returns_2 : tie.Need-returns-else-x-gt2
 unfolding fix_up
-returns-2 c =
-    let count = c.before.before.before.args.x.count in
+returns_2 c =
+    let count = c.args.x.count in
     rw (le-ltb 2 count (omega arith))
 
-pub fix-extrq-spec : {M : Type 1} → statement M
-fix-extrq-spec = tie.close (tie.spec with-access-requires returns returns-2)
+pub fix_extrq_spec : {M : Type 1} → statement M
+fix_extrq_spec = tie.close (tie.spec with_access_requires returns returns_2)

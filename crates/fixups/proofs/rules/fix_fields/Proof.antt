@@ -3,12 +3,12 @@ use borrow.Author.Rules.{rules}
 use Rattle.fixups.proofs.rules.fix_fields.Statement.{statement}
 use Rattle.fixups.proofs.rules.fix_fields.Tie as tie
 
-fix-up-requires : tie.Need-fix-up-requires
-fix-up-requires c κs = search rules
+fix_up_requires : tie.Need-fix_up-requires
+fix_up_requires c κs = search rules
 
 returns : tie.Need-returns
 unfolding fields_of
-returns c = c.fix-up.ensures
+returns c = c.fix_up.ensures
 
-pub fix-fields-spec : {M : Type 1} → statement M
-fix-fields-spec = tie.close (tie.spec fix-up-requires returns)
+pub fix_fields_spec : {M : Type 1} → statement M
+fix_fields_spec = tie.close (tie.spec fix_up_requires returns)

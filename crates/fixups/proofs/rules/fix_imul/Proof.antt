@@ -5,53 +5,53 @@ use Rattle.definition.specs.Behaviors.{fix_up, imul_fix}
 use Rattle.fixups.proofs.rules.fix_imul.Statement.{statement}
 use Rattle.fixups.proofs.rules.fix_imul.Tie as tie
 
-by-width-requires : tie.Need-by-width-requires
-by-width-requires c κs = search rules
+by_width_requires : tie.Need-by_width-requires
+by_width_requires c κs = search rules
 
-with-access-requires : tie.Need-with-access-requires
-with-access-requires c κs = search rules
+with_access_requires : tie.Need-with_access-changed-requires
+with_access_requires c κs = search rules
 
-with-access-requires-2 : tie.Need-with-access-requires-2
-with-access-requires-2 c κs = search rules
+with_access_requires_2 : tie.Need-with_access-requires
+with_access_requires_2 c κs = search rules
 
-with-access-requires-3 : tie.Need-with-access-requires-3
-with-access-requires-3 c κs = search rules
+with_access_requires_3 : tie.Need-with_access-first-requires
+with_access_requires_3 c κs = search rules
 
-with-access-requires-4 : tie.Need-with-access-requires-4
-with-access-requires-4 c κs = search rules
+with_access_requires_4 : tie.Need-with_access-read-requires
+with_access_requires_4 c κs = search rules
 
-with-access-requires-5 : tie.Need-with-access-requires-5
-with-access-requires-5 c κs = search rules
+with_access_requires_5 : tie.Need-with_access-requires-in-3
+with_access_requires_5 c κs = search rules
 
-returns : tie.Need-returns
+returns : tie.Need-returns-in-1
 unfolding fix_up imul_fix
-returns c = rw (eq-eqb _ 1 c.before.match.keys1) c.by_width.ensures
+returns c = rw (eq-eqb _ 1 c.in-1.is) c.by_width.ensures
 
-returns-2 : tie.Need-returns-2
+returns_2 : tie.Need-returns-in-2
 unfolding fix_up imul_fix
-returns-2 c = rw (c.before.before.match.keys2, c.with-access2.ensures, c.before.with-access.ensures)
+returns_2 c = rw (c.in-2.is, c.with_access.ensures, c.with_access-changed.ensures)
 
-returns-3 : tie.Need-returns-3
+returns_3 : tie.Need-returns-in-3
 unfolding fix_up imul_fix
-returns-3 c = rw (c.before.before.before.match.keys3, c.with-access5.ensures, c.before.with-access4.ensures, c.before.before.with-access3.ensures)
+returns_3 c = rw (c.in-3.is, c.with_access-in-3.ensures, c.with_access-read.ensures, c.with_access-first.ensures)
 
-returns-4 : tie.Need-returns-4
+returns_4 : tie.Need-returns-in_default
 unfolding fix_up imul_fix
-returns-4 c =
-    let ne = c.match.rest in
+returns_4 c =
+    let ne = c.in_default.in_default-own.rest in
     rw (ne_eqb _ 1 ne.0.0.1, ne_eqb _ 2 ne.0.1, ne_eqb _ 3 ne.1)
 
-pub fix-imul-spec : {M : Type 1} → statement M
-fix-imul-spec =
+pub fix_imul_spec : {M : Type 1} → statement M
+fix_imul_spec =
     tie.close
     (tie.spec
-    by-width-requires
-    with-access-requires
-    with-access-requires-2
-    with-access-requires-3
-    with-access-requires-4
-    with-access-requires-5
+    by_width_requires
+    with_access_requires
+    with_access_requires_2
+    with_access_requires_3
+    with_access_requires_4
+    with_access_requires_5
     returns
-    returns-2
-    returns-3
-    returns-4)
+    returns_2
+    returns_3
+    returns_4)

@@ -6,24 +6,24 @@ use Rattle.definition.specs.Behaviors.{fix_up}
 use Rattle.fixups.proofs.rules.fix_insertq.Statement.{statement}
 use Rattle.fixups.proofs.rules.fix_insertq.Tie as tie
 
-with-access-requires : tie.Need-with-access-requires
-with-access-requires c κs = search rules
+with_access_requires : tie.Need-with_access-read-requires
+with_access_requires c κs = search rules
 
-with-access-requires-2 : tie.Need-with-access-requires-2
-with-access-requires-2 c κs = search rules
+with_access_requires_2 : tie.Need-with_access-requires
+with_access_requires_2 c κs = search rules
 
-returns : tie.Need-returns
+returns : tie.Need-returns-then-count-gt2
 unfolding fix_up
 returns c =
-    let count = c.before.before.before.before.args.x.count in
-    rw (lt-ltb 2 count (omega arith), c.with-access2.ensures, c.before.with-access.ensures)
+    let count = c.args.x.count in
+    rw (lt-ltb 2 count (omega arith), c.with_access.ensures, c.with_access-read.ensures)
 
-returns-2 : tie.Need-returns-2
+returns_2 : tie.Need-returns-else-count-gt2
 unfolding fix_up
-returns-2 c =
-    let count = c.before.before.args.x.count in
+returns_2 c =
+    let count = c.args.x.count in
     rw (le-ltb 2 count (omega arith))
 
-pub fix-insertq-spec : {M : Type 1} → statement M
-fix-insertq-spec =
-    tie.close (tie.spec with-access-requires with-access-requires-2 returns returns-2)
+pub fix_insertq_spec : {M : Type 1} → statement M
+fix_insertq_spec =
+    tie.close (tie.spec with_access_requires with_access_requires_2 returns returns_2)

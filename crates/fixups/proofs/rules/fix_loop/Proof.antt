@@ -4,15 +4,15 @@ use Rattle.definition.specs.Behaviors.{fix_up}
 use Rattle.fixups.proofs.rules.fix_loop.Statement.{statement}
 use Rattle.fixups.proofs.rules.fix_loop.Tie as tie
 
-address-size-requires : tie.Need-address-size-requires
-address-size-requires c κs = search rules
+address_size_requires : tie.Need-address_size-requires
+address_size_requires c κs = search rules
 
-one-list-of-requires : tie.Need-one-list-of-requires
-one-list-of-requires c κs = search rules
+one_list_of_requires : tie.Need-one_list_of-requires
+one_list_of_requires c κs = search rules
 
 returns : tie.Need-returns
 unfolding fix_up
-returns c = rw (c.one-list-of.ensures, c.before.address-size.ensures)
+returns c = rw (c.one_list_of.ensures, c.address_size.ensures)
 
-pub fix-loop-spec : {M : Type 1} → statement M
-fix-loop-spec = tie.close (tie.spec address-size-requires one-list-of-requires returns)
+pub fix_loop_spec : {M : Type 1} → statement M
+fix_loop_spec = tie.close (tie.spec address_size_requires one_list_of_requires returns)

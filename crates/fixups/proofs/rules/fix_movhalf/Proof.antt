@@ -5,24 +5,24 @@ use Rattle.definition.specs.Behaviors.{fix_up, movhalf_fix}
 use Rattle.fixups.proofs.rules.fix_movhalf.Statement.{statement}
 use Rattle.fixups.proofs.rules.fix_movhalf.Tie as tie
 
-with-access-requires : tie.Need-with-access-requires
-with-access-requires c κs = search rules
+with_access_requires : tie.Need-with_access-requires
+with_access_requires c κs = search rules
 
-with-access-requires-2 : tie.Need-with-access-requires-2
-with-access-requires-2 c κs = search rules
+with_access_requires_2 : tie.Need-with_access-written-requires
+with_access_requires_2 c κs = search rules
 
-with-access-requires-3 : tie.Need-with-access-requires-3
-with-access-requires-3 c κs = search rules
+with_access_requires_3 : tie.Need-with_access-requires-else-x-eq2
+with_access_requires_3 c κs = search rules
 
-returns : tie.Need-returns
+returns : tie.Need-returns-then-x-eq2
 unfolding fix_up movhalf_fix
-returns c = rw (eq-eqb _ _ c.before.if1.true) c.with-access.ensures
+returns c = rw (eq-eqb _ _ c.if-x-eq2.true) c.with_access.ensures
 
-returns-2 : tie.Need-returns-2
+returns_2 : tie.Need-returns-else-x-eq2
 unfolding fix_up movhalf_fix
-returns-2 c = rw (ne_eqb _ _ c.before.before.if1.false, c.with-access3.ensures, c.before.with-access2.ensures)
+returns_2 c = rw (ne_eqb _ _ c.if-x-eq2.false, c.with_access-else-x-eq2.ensures, c.with_access-written.ensures)
 
-pub fix-movhalf-spec : {M : Type 1} → statement M
-fix-movhalf-spec =
+pub fix_movhalf_spec : {M : Type 1} → statement M
+fix_movhalf_spec =
     tie.close
-    (tie.spec with-access-requires with-access-requires-2 with-access-requires-3 returns returns-2)
+    (tie.spec with_access_requires with_access_requires_2 with_access_requires_3 returns returns_2)

@@ -4,12 +4,12 @@ use Rattle.definition.specs.Behaviors.{fix_up}
 use Rattle.fixups.proofs.rules.fix_mul.Statement.{statement}
 use Rattle.fixups.proofs.rules.fix_mul.Tie as tie
 
-by-width-requires : tie.Need-by-width-requires
-by-width-requires c κs = search rules
+by_width_requires : tie.Need-by_width-requires
+by_width_requires c κs = search rules
 
 returns : tie.Need-returns
 unfolding fix_up
 returns c = c.by_width.ensures
 
-pub fix-mul-spec : {M : Type 1} → statement M
-fix-mul-spec = tie.close (tie.spec by-width-requires returns)
+pub fix_mul_spec : {M : Type 1} → statement M
+fix_mul_spec = tie.close (tie.spec by_width_requires returns)

@@ -5,16 +5,16 @@ use Rattle.definition.specs.Behaviors.{fix_up}
 use Rattle.fixups.proofs.rules.fix_nop.Statement.{statement}
 use Rattle.fixups.proofs.rules.fix_nop.Tie as tie
 
-with-access-requires : tie.Need-with-access-requires
-with-access-requires c κs = search rules
+with_access_requires : tie.Need-with_access-requires
+with_access_requires c κs = search rules
 
-returns : tie.Need-returns
+returns : tie.Need-returns-then-x-eq1
 unfolding fix_up
-returns c = rw (eq-eqb _ _ c.before.if1.true) c.with-access.ensures
+returns c = rw (eq-eqb _ _ c.if-x-eq1.true) c.with_access.ensures
 
-returns-2 : tie.Need-returns-2
+returns_2 : tie.Need-returns-else-x-eq1
 unfolding fix_up
-returns-2 c = rw (ne_eqb _ _ c.if1.false)
+returns_2 c = rw (ne_eqb _ _ c.if-x-eq1.false)
 
-pub fix-nop-spec : {M : Type 1} → statement M
-fix-nop-spec = tie.close (tie.spec with-access-requires returns returns-2)
+pub fix_nop_spec : {M : Type 1} → statement M
+fix_nop_spec = tie.close (tie.spec with_access_requires returns returns_2)

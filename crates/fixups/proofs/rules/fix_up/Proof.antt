@@ -7,174 +7,174 @@ use Rattle.fixups.proofs.Opcodes.{ruled, rule_span, unruled}
 use Rattle.fixups.proofs.rules.fix_up.Statement.{statement}
 use Rattle.fixups.proofs.rules.fix_up.Tie as tie
 
-fix-mul-requires : tie.Need-fix-mul-requires
-fix-mul-requires c κs = search rules
+fix_mul_requires : tie.Need-fix_mul-requires
+fix_mul_requires c κs = search rules
 
-fix-imul-requires : tie.Need-fix-imul-requires
-fix-imul-requires c κs = search rules
+fix_imul_requires : tie.Need-fix_imul-requires
+fix_imul_requires c κs = search rules
 
-fix-nop-requires : tie.Need-fix-nop-requires
-fix-nop-requires c κs = search rules
+fix_nop_requires : tie.Need-fix_nop-requires
+fix_nop_requires c κs = search rules
 
-fix-cmpxchg-requires : tie.Need-fix-cmpxchg-requires
-fix-cmpxchg-requires c κs = search rules
+fix_cmpxchg_requires : tie.Need-fix_cmpxchg-requires
+fix_cmpxchg_requires c κs = search rules
 
-fix-extrq-requires : tie.Need-fix-extrq-requires
-fix-extrq-requires c κs = search rules
+fix_extrq_requires : tie.Need-fix_extrq-requires
+fix_extrq_requires c κs = search rules
 
-fix-insertq-requires : tie.Need-fix-insertq-requires
-fix-insertq-requires c κs = search rules
+fix_insertq_requires : tie.Need-fix_insertq-requires
+fix_insertq_requires c κs = search rules
 
-fix-mulx-requires : tie.Need-fix-mulx-requires
-fix-mulx-requires c κs = search rules
+fix_mulx_requires : tie.Need-fix_mulx-requires
+fix_mulx_requires c κs = search rules
 
-fix-maskmov-requires : tie.Need-fix-maskmov-requires
-fix-maskmov-requires c κs = search rules
+fix_maskmov_requires : tie.Need-fix_maskmov-requires
+fix_maskmov_requires c κs = search rules
 
-fix-div-requires : tie.Need-fix-div-requires
-fix-div-requires c κs = search rules
+fix_div_requires : tie.Need-fix_div-requires
+fix_div_requires c κs = search rules
 
-fix-movhalf-requires : tie.Need-fix-movhalf-requires
-fix-movhalf-requires c κs = search rules
+fix_movhalf_requires : tie.Need-fix_movhalf-requires
+fix_movhalf_requires c κs = search rules
 
-fix-return-requires : tie.Need-fix-return-requires
-fix-return-requires c κs = search rules
+fix_return_requires : tie.Need-fix_return-requires
+fix_return_requires c κs = search rules
 
-fix-pcmpestri-requires : tie.Need-fix-pcmpestri-requires
-fix-pcmpestri-requires c κs = search rules
+fix_pcmpestri_requires : tie.Need-fix_pcmpestri-requires
+fix_pcmpestri_requires c κs = search rules
 
-fix-pcmpestrm-requires : tie.Need-fix-pcmpestrm-requires
-fix-pcmpestrm-requires c κs = search rules
+fix_pcmpestrm_requires : tie.Need-fix_pcmpestrm-requires
+fix_pcmpestrm_requires c κs = search rules
 
-fix-loop-requires : tie.Need-fix-loop-requires
-fix-loop-requires c κs = search rules
+fix_loop_requires : tie.Need-fix_loop-requires
+fix_loop_requires c κs = search rules
 
-returns : tie.Need-returns
+returns : tie.Need-returns-in-1
 unfolding rule_of
-returns c = ruled c.before.before.args.x (ap rule_of c.before.match.keys1) c.fix-mul.ensures
+returns c = ruled c.args.x (ap rule_of c.in-1.is) c.fix_mul.ensures
 
-returns-2 : tie.Need-returns-2
+returns_2 : tie.Need-returns-in-2
 unfolding rule_of
-returns-2 c = ruled c.before.before.args.x (ap rule_of c.before.match.keys2) c.fix-imul.ensures
+returns_2 c = ruled c.args.x (ap rule_of c.in-2.is) c.fix_imul.ensures
 
-returns-3 : tie.Need-returns-3
+returns_3 : tie.Need-returns-in-5
 unfolding rule_of
-returns-3 c = ruled c.before.before.args.x (ap rule_of c.before.match.keys3) c.fix-nop.ensures
+returns_3 c = ruled c.args.x (ap rule_of c.in-5.is) c.fix_nop.ensures
 
-returns-4 : tie.Need-returns-4
+returns_4 : tie.Need-returns-in-6
 unfolding rule_of
-returns-4 c = ruled c.before.before.args.x (ap rule_of c.before.match.keys4) c.fix-cmpxchg.ensures
+returns_4 c = ruled c.args.x (ap rule_of c.in-6.is) c.fix_cmpxchg.ensures
 
-returns-5 : tie.Need-returns-5
+returns_5 : tie.Need-returns-in-11
 unfolding rule_of
-returns-5 c = ruled c.before.before.args.x (ap rule_of c.before.match.keys5) c.fix-extrq.ensures
+returns_5 c = ruled c.args.x (ap rule_of c.in-11.is) c.fix_extrq.ensures
 
-returns-6 : tie.Need-returns-6
+returns_6 : tie.Need-returns-in-12
 unfolding rule_of
-returns-6 c = ruled c.before.before.args.x (ap rule_of c.before.match.keys6) c.fix-insertq.ensures
+returns_6 c = ruled c.args.x (ap rule_of c.in-12.is) c.fix_insertq.ensures
 
-returns-7 : tie.Need-returns-7
+returns_7 : tie.Need-returns-in-15
 unfolding rule_of
-returns-7 c = ruled c.before.before.args.x (ap rule_of c.before.match.keys7) c.fix-mulx.ensures
+returns_7 c = ruled c.args.x (ap rule_of c.in-15.is) c.fix_mulx.ensures
 
-returns-8 : tie.Need-returns-8
+returns_8 : tie.Need-returns-in-16
 unfolding rule_of
-returns-8 c = ruled c.before.before.args.x (ap rule_of c.before.match.keys8) c.fix-maskmov.ensures
+returns_8 c = ruled c.args.x (ap rule_of c.in-16.is) c.fix_maskmov.ensures
 
-returns-9 : tie.Need-returns-9
+returns_9 : tie.Need-returns-in-3
 unfolding rule_of
-returns-9 c =
-    let m = c.before.before.before in
-    let x = m.before.args.x in
-    let ne = m.match.rest in
+returns_9 c =
+    let m = c in
+    let x = m.args.x in
+    let ne = m.in-3.in_default-own.rest in
     ruled x
-    (rule_span div x.opcode 1 4 (inl ne.0.0.0.0.0.0.0.1, (inl ne.0.0.0.0.0.0.1, (inr refl, (inr refl, tt)))) c.before.before.if1.false c.before.if2.true)
-    c.fix-div.ensures
+    (rule_span div x.opcode 1 4 (inl ne.0.0.0.0.0.0.0.1, (inl ne.0.0.0.0.0.0.1, (inr refl, (inr refl, tt)))) c.in-3.if-opcode-lt1-own.false c.in-3.if-opcode-lt5-own.true)
+    c.fix_div.ensures
 
-returns-10 : tie.Need-returns-10
+returns_10 : tie.Need-returns-in-7-to-10
 unfolding rule_of
-returns-10 c =
-    let m = c.before.before.before.before in
-    let x = m.before.args.x in
-    let ne = m.match.rest in
+returns_10 c =
+    let m = c in
+    let x = m.args.x in
+    let ne = m.in-7-to-10.in_default-own.rest in
     ruled x
-    (rule_span movhalf x.opcode 5 6 (inl ne.0.0.0.0.0.1, (inl ne.0.0.0.0.1, (inr refl, (inr refl, (inr refl, (inr refl, tt)))))) c.before.before.if2.false c.before.if3.true)
-    c.fix-movhalf.ensures
+    (rule_span movhalf x.opcode 5 6 (inl ne.0.0.0.0.0.1, (inl ne.0.0.0.0.1, (inr refl, (inr refl, (inr refl, (inr refl, tt)))))) c.in-7-to-10.if-opcode-lt5-own.false c.in-7-to-10.if-opcode-lt11-own.true)
+    c.fix_movhalf.ensures
 
-returns-11 : tie.Need-returns-11
+returns_11 : tie.Need-returns-in-13
 unfolding rule_of
-returns-11 c =
-    let m = c.before.before.before.before.before in
-    let x = m.before.args.x in
-    let ne = m.match.rest in
+returns_11 c =
+    let m = c in
+    let x = m.args.x in
+    let ne = m.in-13.in_default-own.rest in
     ruled x
-    (rule_span return x.opcode 11 4 (inl ne.0.0.0.1, (inl ne.0.0.1, (inr refl, (inr refl, tt)))) c.before.before.if3.false c.before.if4.true)
-    c.fix-return.ensures
+    (rule_span return x.opcode 11 4 (inl ne.0.0.0.1, (inl ne.0.0.1, (inr refl, (inr refl, tt)))) c.in-13.if-opcode-lt11-own.false c.in-13.if-opcode-lt15-own.true)
+    c.fix_return.ensures
 
-returns-12 : tie.Need-returns-12
+returns_12 : tie.Need-returns-in-17
 unfolding rule_of
-returns-12 c =
-    let m = c.before.before.before.before.before.before in
-    let x = m.before.args.x in
-    let ne = m.match.rest in
+returns_12 c =
+    let m = c in
+    let x = m.args.x in
+    let ne = m.in-17.in_default-own.rest in
     ruled x
-    (rule_span pcmpestri x.opcode 15 4 (inl ne.0.1, (inl ne.1, (inr refl, (inr refl, tt)))) c.before.before.if4.false c.before.if5.true)
-    c.fix-pcmpestri.ensures
+    (rule_span pcmpestri x.opcode 15 4 (inl ne.0.1, (inl ne.1, (inr refl, (inr refl, tt)))) c.in-17.if-opcode-lt15-own.false c.in-17.if-opcode-lt19-own.true)
+    c.fix_pcmpestri.ensures
 
-returns-13 : tie.Need-returns-13
+returns_13 : tie.Need-returns-in-19
 unfolding rule_of
-returns-13 c =
-    let m = c.before.before.before.before.before.before.before in
-    let x = m.before.args.x in
+returns_13 c =
+    let m = c in
+    let x = m.args.x in
     ruled x
-    (rule_span pcmpestrm x.opcode 19 2 (inr refl, (inr refl, tt)) c.before.before.if5.false c.before.if6.true)
-    c.fix-pcmpestrm.ensures
+    (rule_span pcmpestrm x.opcode 19 2 (inr refl, (inr refl, tt)) c.in-19.if-opcode-lt19-own.false c.in-19.if-opcode-lt21-own.true)
+    c.fix_pcmpestrm.ensures
 
-returns-14 : tie.Need-returns-14
+returns_14 : tie.Need-returns-in-21-to-23
 unfolding rule_of
-returns-14 c =
-    let m = c.before.before.before.before.before.before.before.before in
-    let x = m.before.args.x in
+returns_14 c =
+    let m = c in
+    let x = m.args.x in
     ruled x
-    (rule_span loop x.opcode 21 3 (inr refl, (inr refl, (inr refl, tt))) c.before.before.if6.false c.before.if7.true)
-    c.fix-loop.ensures
+    (rule_span loop x.opcode 21 3 (inr refl, (inr refl, (inr refl, tt))) c.in-21-to-23.if-opcode-lt21-own.false c.in-21-to-23.if-opcode-lt24-own.true)
+    c.fix_loop.ensures
 
-returns-15 : tie.Need-returns-15
-returns-15 c =
-    let x = c.before.before.before.args.x in
+returns_15 : tie.Need-returns-in_default
+returns_15 c =
+    let x = c.args.x in
     unruled x x.digest x.opcode
-    (⊎_elim (λ w. inl w.taken) (λ w. inr w.6.left) c.before.if1.branch)
+    (⊎_elim (λ w. inl w.taken) (λ w. inr w.6.left) c.in_default.branch)
 
-pub fix-up-spec : {M : Type 1} → statement M
-fix-up-spec =
+pub fix_up_spec : {M : Type 1} → statement M
+fix_up_spec =
     tie.close
     (tie.spec
-    fix-mul-requires
-    fix-imul-requires
-    fix-nop-requires
-    fix-cmpxchg-requires
-    fix-extrq-requires
-    fix-insertq-requires
-    fix-mulx-requires
-    fix-maskmov-requires
-    fix-div-requires
-    fix-movhalf-requires
-    fix-return-requires
-    fix-pcmpestri-requires
-    fix-pcmpestrm-requires
-    fix-loop-requires
+    fix_mul_requires
+    fix_imul_requires
+    fix_nop_requires
+    fix_cmpxchg_requires
+    fix_extrq_requires
+    fix_insertq_requires
+    fix_mulx_requires
+    fix_maskmov_requires
+    fix_div_requires
+    fix_movhalf_requires
+    fix_return_requires
+    fix_pcmpestri_requires
+    fix_pcmpestrm_requires
+    fix_loop_requires
     returns
-    returns-2
-    returns-3
-    returns-4
-    returns-5
-    returns-6
-    returns-7
-    returns-8
-    returns-9
-    returns-10
-    returns-11
-    returns-12
-    returns-13
-    returns-14
-    returns-15)
+    returns_2
+    returns_3
+    returns_4
+    returns_5
+    returns_6
+    returns_7
+    returns_8
+    returns_9
+    returns_10
+    returns_11
+    returns_12
+    returns_13
+    returns_14
+    returns_15)

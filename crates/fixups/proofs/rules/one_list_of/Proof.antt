@@ -3,17 +3,17 @@ use borrow.Author.Rules.{rules}
 use Rattle.fixups.proofs.rules.one_list_of.Statement.{statement}
 use Rattle.fixups.proofs.rules.one_list_of.Tie as tie
 
-with-list-requires : tie.Need-with-list-requires
-with-list-requires c κs = search rules
+with_list_requires : tie.Need-with_list-requires
+with_list_requires c κs = search rules
 
-with-list-requires-2 : tie.Need-with-list-requires-2
-with-list-requires-2 c κs = search rules
+with_list_requires_2 : tie.Need-with_list-requires-else-test
+with_list_requires_2 c κs = search rules
 
-returns : tie.Need-returns
-returns c = rw c.before.if1.true c.with-list.ensures
+returns : tie.Need-returns-then-test
+returns c = rw c.if-test.true c.with_list.ensures
 
-returns-2 : tie.Need-returns-2
-returns-2 c = rw c.before.if1.false c.with-list2.ensures
+returns_2 : tie.Need-returns-else-test
+returns_2 c = rw c.if-test.false c.with_list-else-test.ensures
 
-pub one-list-of-spec : {M : Type 1} → statement M
-one-list-of-spec = tie.close (tie.spec with-list-requires with-list-requires-2 returns returns-2)
+pub one_list_of_spec : {M : Type 1} → statement M
+one_list_of_spec = tie.close (tie.spec with_list_requires with_list_requires_2 returns returns_2)

@@ -5,24 +5,24 @@ use Rattle.definition.specs.Behaviors.{operand_width}
 use Rattle.fixups.proofs.rules.operand_width.Statement.{statement}
 use Rattle.fixups.proofs.rules.operand_width.Tie as tie
 
-element-copy-out-if1 : tie.Need-element-copy-out-if1
-element-copy-out-if1 c = search rules
+element_copy_out_if1 : tie.Need-bounds-x-0
+element_copy_out_if1 c = search rules
 
-element-copy-out-width : tie.Need-element-copy-out-width
-element-copy-out-width c = search rules
+element_copy_out_width : tie.Need-bounds-x-1
+element_copy_out_width c = search rules
 
-width-requires : tie.Need-width-requires
-width-requires c κs = search rules
+width_requires : tie.Need-width-requires
+width_requires c κs = search rules
 
-returns : tie.Need-returns
+returns : tie.Need-returns-then-x-eq-REG_MMM
 unfolding operand_width
-returns c = rw (eq-eqb _ _ c.before.before.if1.true) c.width.ensures
+returns c = rw (eq-eqb _ _ c.if-x-eq-REG_MMM.true) c.width.ensures
 
-returns-2 : tie.Need-returns-2
+returns_2 : tie.Need-returns-else-x-eq-REG_MMM
 unfolding operand_width
-returns-2 c = rw (ne_eqb _ _ c.if1.false)
+returns_2 c = rw (ne_eqb _ _ c.if-x-eq-REG_MMM.false)
 
-pub operand-width-spec : {M : Type 1} → statement M
-operand-width-spec =
+pub operand_width_spec : {M : Type 1} → statement M
+operand_width_spec =
     tie.close
-    (tie.spec element-copy-out-if1 element-copy-out-width width-requires returns returns-2)
+    (tie.spec element_copy_out_if1 element_copy_out_width width_requires returns returns_2)

@@ -7,24 +7,24 @@ use Rattle.fixups.proofs.Answers.{digest_or}
 use Rattle.fixups.proofs.rules.with_access.Statement.{statement}
 use Rattle.fixups.proofs.rules.with_access.Tie as tie
 
-set-operand-requires : tie.Need-set-operand-requires
-set-operand-requires c κs = search rules
+set_operand_requires : tie.Need-set_operand-requires
+set_operand_requires c κs = search rules
 
-enum-known-changed : tie.Need-enum-known-changed
-enum-known-changed c = search rules
+enum_known_changed : tie.Need-enum_known-changed
+enum_known_changed c = search rules
 
-enum_told : tie.Need-enum-told
+enum_told : tie.Need-enum_told-1
 enum_told c = search rules
 
-returns : tie.Need-returns
+returns : tie.Need-returns-in_default
 returns c =
-    let a = c.before.before.before.args in
-    ap (digest_or a.d) (sym c.enum_told.given.1 ∙ c.before.before.set-operand.ensures ∙ operand_taken a.d a.operand (access_number a.access) c.before.before.before.requires)
+    let a = c.args in
+    ap (digest_or a.d) (sym c.in_default.is ∙ c.set_operand.ensures ∙ operand_taken a.d a.operand (access_number a.access) c.requires)
 
-returns-2 : tie.Need-returns-2
-returns-2 c =
-    let a = c.before.before.before.before.args in
-    ap (digest_or a.d) (sym c.before.changed.given.1 ∙ c.before.before.before.set-operand.ensures ∙ operand_taken a.d a.operand (access_number a.access) c.before.before.before.before.requires)
+returns_2 : tie.Need-returns
+returns_2 c =
+    let a = c.args in
+    ap (digest_or a.d) (sym c.in-Done.is ∙ c.set_operand.ensures ∙ operand_taken a.d a.operand (access_number a.access) c.requires)
 
-pub with-access-spec : {M : Type 1} → statement M
-with-access-spec = tie.close (tie.spec set-operand-requires enum-known-changed enum_told returns returns-2)
+pub with_access_spec : {M : Type 1} → statement M
+with_access_spec = tie.close (tie.spec set_operand_requires enum_known_changed enum_told returns returns_2)

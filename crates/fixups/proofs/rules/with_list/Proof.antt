@@ -6,24 +6,24 @@ use Rattle.fixups.proofs.Answers.{digest_or}
 use Rattle.fixups.proofs.rules.with_list.Statement.{statement}
 use Rattle.fixups.proofs.rules.with_list.Tie as tie
 
-set-implicit-ops-requires : tie.Need-set-implicit-ops-requires
-set-implicit-ops-requires c κs = search rules
+set_implicit_ops_requires : tie.Need-set_implicit_ops-requires
+set_implicit_ops_requires c κs = search rules
 
-enum-known-changed : tie.Need-enum-known-changed
-enum-known-changed c = search rules
+enum_known_changed : tie.Need-enum_known-changed
+enum_known_changed c = search rules
 
-enum_told : tie.Need-enum-told
+enum_told : tie.Need-enum_told-1
 enum_told c = search rules
 
-returns : tie.Need-returns
+returns : tie.Need-returns-in_default
 returns c =
-    let a = c.before.before.before.args in
-    ap (digest_or a.d) (sym c.enum_told.given.1 ∙ c.before.before.set-implicit-ops.ensures ∙ list_taken a.d a.list c.before.before.before.requires)
+    let a = c.args in
+    ap (digest_or a.d) (sym c.in_default.is ∙ c.set_implicit_ops.ensures ∙ list_taken a.d a.list c.requires)
 
-returns-2 : tie.Need-returns-2
-returns-2 c =
-    let a = c.before.before.before.before.args in
-    ap (digest_or a.d) (sym c.before.changed.given.1 ∙ c.before.before.before.set-implicit-ops.ensures ∙ list_taken a.d a.list c.before.before.before.before.requires)
+returns_2 : tie.Need-returns
+returns_2 c =
+    let a = c.args in
+    ap (digest_or a.d) (sym c.in-Done.is ∙ c.set_implicit_ops.ensures ∙ list_taken a.d a.list c.requires)
 
-pub with-list-spec : {M : Type 1} → statement M
-with-list-spec = tie.close (tie.spec set-implicit-ops-requires enum-known-changed enum_told returns returns-2)
+pub with_list_spec : {M : Type 1} → statement M
+with_list_spec = tie.close (tie.spec set_implicit_ops_requires enum_known_changed enum_told returns returns_2)

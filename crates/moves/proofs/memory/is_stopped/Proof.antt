@@ -2,20 +2,20 @@ use borrow.Author.Rules.{rules}
 use Rattle.moves.proofs.memory.is_stopped.Statement.{statement}
 use Rattle.moves.proofs.memory.is_stopped.Tie as tie
 
-enum_told : tie.Need-enum-told
+enum_told : tie.Need-enum_told-1
 enum_told c = search rules
 
-opcode-in-requires : tie.Need-opcode-in-requires
-opcode-in-requires c κs = search rules
+opcode_in_requires : tie.Need-opcode_in-requires
+opcode_in_requires c κs = search rules
 
-enum-told-2 : tie.Need-enum-told-2
-enum-told-2 c = search rules
+enum_told_2 : tie.Need-enum_told-in-Write
+enum_told_2 c = search rules
 
-returns : tie.Need-returns
-returns c = rw (c.before.enum_told.given.1, c.opcode-in.ensures)
+returns : tie.Need-returns-in-Read
+returns c = rw (c.in-Read.is, c.opcode_in.ensures)
 
-returns-2 : tie.Need-returns-2
-returns-2 c = rw c.enum-told2.given.1
+returns_2 : tie.Need-returns-in-Write
+returns_2 c = rw c.in-Write.is
 
-pub is-stopped-spec : {M : Type 1} → statement M
-is-stopped-spec = tie.close (tie.spec enum_told opcode-in-requires enum-told-2 returns returns-2)
+pub is_stopped_spec : {M : Type 1} → statement M
+is_stopped_spec = tie.close (tie.spec enum_told opcode_in_requires enum_told_2 returns returns_2)

@@ -6,44 +6,44 @@ use Rattle.moves.specs.Touches.{access_events}
 use Rattle.moves.proofs.memory.put_access.Statement.{statement}
 use Rattle.moves.proofs.memory.put_access.Tie as tie
 
-is-stopped-requires : tie.Need-is-stopped-requires
-is-stopped-requires c κs = search rules
+is_stopped_requires : tie.Need-is_stopped-requires
+is_stopped_requires c κs = search rules
 
-returns : tie.Need-returns
+returns : tie.Need-returns-then-is_stopped
 unfolding access_events
-returns c = rw (sym c.before.is-stopped.ensures ∙ c.if1.true) (silent event_bytes c.before.before.before.before.args.log.now)
+returns c = rw (sym c.is_stopped.ensures ∙ c.if-is_stopped.true) (silent event_bytes c.args.log.now)
 
-cut-requires : tie.Need-cut-requires
-cut-requires c κs = search rules
+cut_requires : tie.Need-cut-requires
+cut_requires c κs = search rules
 
-sum-requires : tie.Need-sum-requires
-sum-requires c κs = search rules
+sum_requires : tie.Need-sum-requires
+sum_requires c κs = search rules
 
-size-in-requires : tie.Need-size-in-requires
-size-in-requires c κs = search rules
+size_in_requires : tie.Need-size_in-requires
+size_in_requires c κs = search rules
 
-put-memory-requires : tie.Need-put-memory-requires
+put_memory_requires : tie.Need-put_memory-requires
 unfolding access_events
-put-memory-requires c κs =
-    rw (c.size_in.ensures, c.before.sum.ensures, c.before.before.cut.ensures) (rw (sym c.before.before.before.before.before.is-stopped.ensures ∙ c.before.before.before.before.if1.false) at c.before.before.before.before.before.before.before.before.requires.1)
+put_memory_requires c κs =
+    rw (c.size_in.ensures, c.sum.ensures, c.cut.ensures) (rw (sym c.is_stopped.ensures ∙ c.if-is_stopped.false) at c.requires.1)
 
-same_length : tie.Need-same-length
+same_length : tie.Need-shape_of-log
 same_length c = search rules
 
-returns-2 : tie.Need-returns-2
+returns_2 : tie.Need-returns
 unfolding access_events
-returns-2 c =
-    rw (sym c.before.before.before.before.before.before.before.before.is-stopped.ensures ∙ c.before.before.before.before.before.before.before.if1.false, ← c.before.before.before.before.before.cut.ensures, ← c.before.before.before.before.sum.ensures, ← c.before.before.before.size_in.ensures) c.before.before.put-memory.ensures
+returns_2 c =
+    rw (sym c.is_stopped.ensures ∙ c.if-is_stopped.false, ← c.cut.ensures, ← c.sum.ensures, ← c.size_in.ensures) c.put_memory.ensures
 
-pub put-access-spec : {M : Type 1} → statement M
-put-access-spec =
+pub put_access_spec : {M : Type 1} → statement M
+put_access_spec =
     tie.close
     (tie.spec
-    is-stopped-requires
+    is_stopped_requires
     returns
-    cut-requires
-    sum-requires
-    size-in-requires
-    put-memory-requires
+    cut_requires
+    sum_requires
+    size_in_requires
+    put_memory_requires
     same_length
-    returns-2)
+    returns_2)

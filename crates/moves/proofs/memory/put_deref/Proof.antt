@@ -32,64 +32,64 @@ room : (s : tie.Start) → size event_bytes (every s) ≤ length s.args.log.now
 unfolding deref_events
 room s = s.requires.1
 
-one : (c : tie.After-put-register) → let s = c.before.before.before.before in
-    Going event_bytes (every s) (seg1 s ∷ seg2 s ∷ []) s.args.log.now c.put-register.new.0 c.put-register.result
+one : (c : tie.After-put_register-m) → let s = c.before.before.before.before in
+    Going event_bytes (every s) (seg1 s ∷ seg2 s ∷ []) s.args.log.now c.put_register-m.new.log c.put_register-m.result
 unfolding deref_events
-one c = let s = c.before.before.before.before in first {seg = seg0 s} (seg1 s ∷ seg2 s ∷ []) c.put-register.ensures (room s) s.well-formed.0.0
+one c = let s = c.before.before.before.before in first {seg = seg0 s} (seg1 s ∷ seg2 s ∷ []) c.put_register-m.ensures (room s) s.well_formed.0.0
 
-two : (c : tie.After-put-mask) → let s = c.before.before.before.before.before.before.before.before in
-    Going event_bytes (every s) (seg2 s ∷ []) s.args.log.now (back c.before.before.before.before.put-register.new.0 c.before.before.before.before.put-register.result c.put-mask.new.0) (c.before.before.before.before.put-register.result + c.put-mask.result)
+two : (c : tie.After-put_mask) → let s = c.before.before.before.before.before.before.before.before in
+    Going event_bytes (every s) (seg2 s ∷ []) s.args.log.now (back c.put_register-m.new.log c.put_register-m.result c.put_mask.new.log) (c.put_register-m.result + c.put_mask.result)
 unfolding deref_events
-two c = next (one c.before.before.before.before) c.put-mask.ensures
+two c = next (one c.before.before.before.before) c.put_mask.ensures
 
-three : (c : tie.After-put-access) → let s = c.before.before.before.before.before.before.before.before.before.before.before.before in
-    Going event_bytes (every s) ([]) s.args.log.now (back (back c.before.before.before.before.before.before.before.before.put-register.new.0 c.before.before.before.before.before.before.before.before.put-register.result c.before.before.before.before.put-mask.new.0) (c.before.before.before.before.before.before.before.before.put-register.result + c.before.before.before.before.put-mask.result) c.put-access.new.0) ((c.before.before.before.before.before.before.before.before.put-register.result + c.before.before.before.before.put-mask.result) + c.put-access.result)
+three : (c : tie.After-put_access) → let s = c.before.before.before.before.before.before.before.before.before.before.before.before in
+    Going event_bytes (every s) ([]) s.args.log.now (back (back c.put_register-m.new.log c.put_register-m.result c.put_mask.new.log) (c.put_register-m.result + c.put_mask.result) c.put_access.new.log) ((c.put_register-m.result + c.put_mask.result) + c.put_access.result)
 unfolding deref_events
-three c = next (two c.before.before.before.before) c.put-access.ensures
+three c = next (two c.before.before.before.before) c.put_access.ensures
 
-put-register-requires : tie.Need-put-register-requires
+put_register_requires : tie.Need-put_register-m-requires
 unfolding deref_events
-put-register-requires c κs = let s = c.before.before.before in fits_first event_bytes (seg0 s) (seg1 s ∷ seg2 s ∷ []) (room s)
+put_register_requires c κs = let s = c.before.before.before in fits_first event_bytes (seg0 s) (seg1 s ∷ seg2 s ∷ []) (room s)
 
-sub-put-mask : tie.Need-overflow-sub-put-mask
+sub_put_mask : tie.Need-slice_bounds-put_mask-count
 unfolding deref_events
-sub-put-mask c = inside (one c.before.before)
+sub_put_mask c = inside (one c.before.before)
 
-part-put-mask-start : tie.Need-slice-bounds-put-mask-start
+part_put_mask_start : tie.Need-slice_bounds-put_mask-start
 unfolding deref_events
-part-put-mask-start c = inside (one c.before.before)
+part_put_mask_start c = inside (one c.before.before)
 
-part-put-mask-end : tie.Need-slice-bounds-put-mask-end
-part-put-mask-end c = search rules
+part_put_mask_end : tie.Need-slice_bounds-put_mask-end
+part_put_mask_end c = search rules
 
-put-mask-requires : tie.Need-put-mask-requires
+put_mask_requires : tie.Need-put_mask-requires
 unfolding deref_events
-put-mask-requires c κs = fits (one c.before.before.before)
+put_mask_requires c κs = fits (one c.before.before.before)
 
-add-n : tie.Need-overflow-add-n
+add_n : tie.Need-overflow_add-n
 unfolding deref_events
-add-n c = ends (one c.before.before.before.before.before.before) c.before.before.put-mask.ensures
+add_n c = ends (one c.before.before.before.before.before.before) c.put_mask.ensures
 
-sub-put-access : tie.Need-overflow-sub-put-access
+sub_put_access : tie.Need-slice_bounds-put_access-count
 unfolding deref_events
-sub-put-access c = inside (two c.before.before)
+sub_put_access c = inside (two c.before.before)
 
-part-put-access-start : tie.Need-slice-bounds-put-access-start
+part_put_access_start : tie.Need-slice_bounds-put_access-start
 unfolding deref_events
-part-put-access-start c = inside (two c.before.before)
+part_put_access_start c = inside (two c.before.before)
 
-part-put-access-end : tie.Need-slice-bounds-put-access-end
-part-put-access-end c = search rules
+part_put_access_end : tie.Need-slice_bounds-put_access-end
+part_put_access_end c = search rules
 
-put-access-requires : tie.Need-put-access-requires
+put_access_requires : tie.Need-put_access-requires
 unfolding deref_events
-put-access-requires c κs = (c.before.before.before.before.before.before.before.before.before.before.before.requires.0, fits (two c.before.before.before))
+put_access_requires c κs = (c.requires.0, fits (two c.before.before.before))
 
-add-result : tie.Need-overflow-add-result
+add_result : tie.Need-overflow_add-result
 unfolding deref_events
-add-result c = ends (two c.before.before.before.before.before.before) c.before.before.put-access.ensures
+add_result c = ends (two c.before.before.before.before.before.before) c.put_access.ensures
 
-same_length : tie.Need-same-length
+same_length : tie.Need-shape_of-log
 unfolding deref_events
 same_length c = keeps (three c.before.before)
 
@@ -97,20 +97,20 @@ returns : tie.Need-returns
 unfolding deref_events
 returns c = whole (three c.before.before)
 
-pub put-deref-spec : {M : Type 1} → statement M
-put-deref-spec =
+pub put_deref_spec : {M : Type 1} → statement M
+put_deref_spec =
     tie.close
     (tie.spec
-    put-register-requires
-    sub-put-mask
-    part-put-mask-start
-    part-put-mask-end
-    put-mask-requires
-    add-n
-    sub-put-access
-    part-put-access-start
-    part-put-access-end
-    put-access-requires
-    add-result
+    put_register_requires
+    sub_put_mask
+    part_put_mask_start
+    part_put_mask_end
+    put_mask_requires
+    add_n
+    sub_put_access
+    part_put_access_start
+    part_put_access_end
+    put_access_requires
+    add_result
     same_length
     returns)

@@ -27,64 +27,64 @@ unfolding indexed_events
 room s = s.requires.1
 
 -- the base is logged
-based : (c : tie.After-put-register) → let s = c.before.before.before.before.before in Logged event_bytes (seg0 s) s.args.log.now c.put-register.new.0 c.put-register.result
-based c = rw c.before.Reg-in.ensures at c.put-register.ensures
+based : (c : tie.After-put_register-n) → let s = c.before.before.before.before.before in Logged event_bytes (seg0 s) s.args.log.now c.put_register-n.new.log c.put_register-n.result
+based c = rw c.reg_in.ensures at c.put_register-n.ensures
 
-one : (c : tie.After-put-register) → let s = c.before.before.before.before.before in
-    Going event_bytes (every s) (seg1 s ∷ []) s.args.log.now c.put-register.new.0 c.put-register.result
-one c = let s = c.before.before.before.before.before in first {seg = seg0 s} (seg1 s ∷ []) (based c) (room s) s.well-formed.0.0
+one : (c : tie.After-put_register-n) → let s = c.before.before.before.before.before in
+    Going event_bytes (every s) (seg1 s ∷ []) s.args.log.now c.put_register-n.new.log c.put_register-n.result
+one c = let s = c.before.before.before.before.before in first {seg = seg0 s} (seg1 s ∷ []) (based c) (room s) s.well_formed.0.0
 
 -- the rest is logged
-rested : (c : tie.After-put-deref) → let s = c.before.before.before.before.before.before.before.before.before.before in
-    Logged event_bytes (seg1 s) (part c.before.before.before.before.before.put-register.new.0 c.before.before.before.before.before.put-register.result) c.put-deref.new.0 c.put-deref.result
-rested c = rw c.before.reg-in2.ensures at c.put-deref.ensures
+rested : (c : tie.After-put_deref) → let s = c.before.before.before.before.before.before.before.before.before.before in
+    Logged event_bytes (seg1 s) (part c.put_register-n.new.log c.put_register-n.result) c.put_deref.new.log c.put_deref.result
+rested c = rw c.reg_in-2.ensures at c.put_deref.ensures
 
-two : (c : tie.After-put-deref) → let s = c.before.before.before.before.before.before.before.before.before.before in
-    Going event_bytes (every s) ([]) s.args.log.now (back c.before.before.before.before.before.put-register.new.0 c.before.before.before.before.before.put-register.result c.put-deref.new.0) (c.before.before.before.before.before.put-register.result + c.put-deref.result)
+two : (c : tie.After-put_deref) → let s = c.before.before.before.before.before.before.before.before.before.before in
+    Going event_bytes (every s) ([]) s.args.log.now (back c.put_register-n.new.log c.put_register-n.result c.put_deref.new.log) (c.put_register-n.result + c.put_deref.result)
 two c = next (one c.before.before.before.before.before) (rested c)
 
-reg-in-requires : tie.Need-reg-in-requires
-reg-in-requires c κs = search rules
+reg_in_requires : tie.Need-reg_in-requires
+reg_in_requires c κs = search rules
 
-put-register-requires : tie.Need-put-register-requires
-put-register-requires c κs = let s = c.before.before.before.before in rw c.Reg-in.ensures (fits_first event_bytes (seg0 s) (seg1 s ∷ []) (room s))
+put_register_requires : tie.Need-put_register-n-requires
+put_register_requires c κs = let s = c.before.before.before.before in rw c.reg_in.ensures (fits_first event_bytes (seg0 s) (seg1 s ∷ []) (room s))
 
-sub-put-deref : tie.Need-overflow-sub-put-deref
-sub-put-deref c = inside (one c.before.before)
+sub_put_deref : tie.Need-slice_bounds-put_deref-count
+sub_put_deref c = inside (one c.before.before)
 
-part-put-deref-start : tie.Need-slice-bounds-put-deref-start
-part-put-deref-start c = inside (one c.before.before)
+part_put_deref_start : tie.Need-slice_bounds-put_deref-start
+part_put_deref_start c = inside (one c.before.before)
 
-part-put-deref-end : tie.Need-slice-bounds-put-deref-end
-part-put-deref-end c = search rules
+part_put_deref_end : tie.Need-slice_bounds-put_deref-end
+part_put_deref_end c = search rules
 
-reg-in-requires-2 : tie.Need-reg-in-requires-2
-reg-in-requires-2 c κs = search rules
+reg_in_requires_2 : tie.Need-reg_in-requires-2
+reg_in_requires_2 c κs = search rules
 
-put-deref-requires : tie.Need-put-deref-requires
-put-deref-requires c κs = (c.before.before.before.before.before.before.before.before.before.requires.0, rw c.reg-in2.ensures (fits (one c.before.before.before.before)))
+put_deref_requires : tie.Need-put_deref-requires
+put_deref_requires c κs = (c.requires.0, rw c.reg_in-2.ensures (fits (one c.before.before.before.before)))
 
-add-result : tie.Need-overflow-add-result
-add-result c = ends (one c.before.before.before.before.before.before.before) (rested c.before.before)
+add_result : tie.Need-overflow_add-result
+add_result c = ends (one c.before.before.before.before.before.before.before) (rested c.before.before)
 
-same_length : tie.Need-same-length
+same_length : tie.Need-shape_of-log
 same_length c = keeps (two c.before.before)
 
 returns : tie.Need-returns
 unfolding indexed_events
 returns c = whole (two c.before.before)
 
-pub put-indexed-spec : {M : Type 1} → statement M
-put-indexed-spec =
+pub put_indexed_spec : {M : Type 1} → statement M
+put_indexed_spec =
     tie.close
     (tie.spec
-    reg-in-requires
-    put-register-requires
-    sub-put-deref
-    part-put-deref-start
-    part-put-deref-end
-    reg-in-requires-2
-    put-deref-requires
-    add-result
+    reg_in_requires
+    put_register_requires
+    sub_put_deref
+    part_put_deref_start
+    part_put_deref_end
+    reg_in_requires_2
+    put_deref_requires
+    add_result
     same_length
     returns)

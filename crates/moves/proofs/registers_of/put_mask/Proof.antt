@@ -7,20 +7,20 @@ use borrow.Author.Rules.{rules}
 use Rattle.moves.proofs.registers_of.put_mask.Statement.{statement}
 use Rattle.moves.proofs.registers_of.put_mask.Tie as tie
 
-returns : tie.Need-returns
+returns : tie.Need-returns-then-mask-eq0
 unfolding mask_registers moved
-returns c = rw (eq-eqb _ _ c.if1.true) (silent event_bytes c.before.before.args.log.now)
+returns c = rw (eq-eqb _ _ c.if-mask-eq0.true) (silent event_bytes c.args.log.now)
 
-put-register-requires : tie.Need-put-register-requires
+put_register_requires : tie.Need-put_register-requires
 unfolding mask_registers moved
-put-register-requires c κs = rw (ne_eqb _ _ c.before.if1.false) at c.before.before.before.requires
+put_register_requires c κs = rw (ne_eqb _ _ c.if-mask-eq0.false) at c.requires
 
-same_length : tie.Need-same-length
+same_length : tie.Need-shape_of-log
 same_length c = search rules
 
-returns-2 : tie.Need-returns-2
+returns_2 : tie.Need-returns
 unfolding mask_registers moved
-returns-2 c = rw (ne_eqb _ _ c.before.before.before.before.if1.false) c.before.before.put-register.ensures
+returns_2 c = rw (ne_eqb _ _ c.if-mask-eq0.false) c.put_register.ensures
 
-pub put-mask-spec : {M : Type 1} → statement M
-put-mask-spec = tie.close (tie.spec returns put-register-requires same_length returns-2)
+pub put_mask_spec : {M : Type 1} → statement M
+put_mask_spec = tie.close (tie.spec returns put_register_requires same_length returns_2)

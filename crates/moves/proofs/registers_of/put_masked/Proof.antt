@@ -2,39 +2,39 @@ use borrow.Author.Rules.{rules}
 use Rattle.moves.proofs.registers_of.put_masked.Statement.{statement}
 use Rattle.moves.proofs.registers_of.put_masked.Tie as tie
 
-enum_told : tie.Need-enum-told
+enum_told : tie.Need-enum_told-1
 enum_told c = search rules
 
-put-masked-read-requires : tie.Need-put-masked-read-requires
-put-masked-read-requires c κs = rw c.before.enum_told.given.1 at c.before.before.before.before.requires
+put_masked_read_requires : tie.Need-put_masked_read-requires
+put_masked_read_requires c κs = rw c.in-Read.is at c.requires
 
-enum-told-2 : tie.Need-enum-told-2
-enum-told-2 c = search rules
+enum_told_2 : tie.Need-enum_told-in-Write
+enum_told_2 c = search rules
 
-put-masked-write-requires : tie.Need-put-masked-write-requires
-put-masked-write-requires c κs = rw c.before.enum-told2.given.1 at c.before.before.before.before.requires
+put_masked_write_requires : tie.Need-put_masked_write-requires
+put_masked_write_requires c κs = rw c.in-Write.is at c.requires
 
-same_length : tie.Need-same-length
+same_length : tie.Need-shape_of-log-in-Read
 same_length c = search rules
 
-returns : tie.Need-returns
-returns c = rw c.before.before.before.before.enum_told.given.1 c.before.before.put-masked-read.ensures
+returns : tie.Need-returns-in-Read
+returns c = rw c.in-Read.is c.put_masked_read.ensures
 
-same-length-2 : tie.Need-same-length-2
-same-length-2 c = search rules
+same_length_2 : tie.Need-shape_of-log-in-Write
+same_length_2 c = search rules
 
-returns-2 : tie.Need-returns-2
-returns-2 c = rw c.before.before.before.before.enum-told2.given.1 c.before.before.put-masked-write.ensures
+returns_2 : tie.Need-returns-in-Write
+returns_2 c = rw c.in-Write.is c.put_masked_write.ensures
 
-pub put-masked-spec : {M : Type 1} → statement M
-put-masked-spec =
+pub put_masked_spec : {M : Type 1} → statement M
+put_masked_spec =
     tie.close
     (tie.spec
     enum_told
-    put-masked-read-requires
-    enum-told-2
-    put-masked-write-requires
+    put_masked_read_requires
+    enum_told_2
+    put_masked_write_requires
     same_length
     returns
-    same-length-2
-    returns-2)
+    same_length_2
+    returns_2)

@@ -28,40 +28,40 @@ room : (s : tie.Start) → size event_bytes (every s) ≤ length s.args.log.now
 unfolding masked_events
 room s = s.requires
 
-one : (c : tie.After-put-register) → let s = c.before.before.before in
-    Going event_bytes (every s) (seg1 s ∷ []) s.args.log.now c.put-register.new.0 c.put-register.result
+one : (c : tie.After-put_register-n) → let s = c.before.before.before in
+    Going event_bytes (every s) (seg1 s ∷ []) s.args.log.now c.put_register-n.new.log c.put_register-n.result
 unfolding masked_events
-one c = let s = c.before.before.before in first {seg = seg0 s} (seg1 s ∷ []) c.put-register.ensures (room s) s.well-formed.0.0
+one c = let s = c.before.before.before in first {seg = seg0 s} (seg1 s ∷ []) c.put_register-n.ensures (room s) s.well_formed.0.0
 
-two : (c : tie.After-put-mask) → let s = c.before.before.before.before.before.before.before in
-    Going event_bytes (every s) ([]) s.args.log.now (back c.before.before.before.before.put-register.new.0 c.before.before.before.before.put-register.result c.put-mask.new.0) (c.before.before.before.before.put-register.result + c.put-mask.result)
+two : (c : tie.After-put_mask) → let s = c.before.before.before.before.before.before.before in
+    Going event_bytes (every s) ([]) s.args.log.now (back c.put_register-n.new.log c.put_register-n.result c.put_mask.new.log) (c.put_register-n.result + c.put_mask.result)
 unfolding masked_events
-two c = next (one c.before.before.before.before) c.put-mask.ensures
+two c = next (one c.before.before.before.before) c.put_mask.ensures
 
-put-register-requires : tie.Need-put-register-requires
+put_register_requires : tie.Need-put_register-n-requires
 unfolding masked_events
-put-register-requires c κs = let s = c.before.before in fits_first event_bytes (seg0 s) (seg1 s ∷ []) (room s)
+put_register_requires c κs = let s = c.before.before in fits_first event_bytes (seg0 s) (seg1 s ∷ []) (room s)
 
-sub-put-mask : tie.Need-overflow-sub-put-mask
+sub_put_mask : tie.Need-slice_bounds-put_mask-count
 unfolding masked_events
-sub-put-mask c = inside (one c.before.before)
+sub_put_mask c = inside (one c.before.before)
 
-part-put-mask-start : tie.Need-slice-bounds-put-mask-start
+part_put_mask_start : tie.Need-slice_bounds-put_mask-start
 unfolding masked_events
-part-put-mask-start c = inside (one c.before.before)
+part_put_mask_start c = inside (one c.before.before)
 
-part-put-mask-end : tie.Need-slice-bounds-put-mask-end
-part-put-mask-end c = search rules
+part_put_mask_end : tie.Need-slice_bounds-put_mask-end
+part_put_mask_end c = search rules
 
-put-mask-requires : tie.Need-put-mask-requires
+put_mask_requires : tie.Need-put_mask-requires
 unfolding masked_events
-put-mask-requires c κs = fits (one c.before.before.before)
+put_mask_requires c κs = fits (one c.before.before.before)
 
-add-result : tie.Need-overflow-add-result
+add_result : tie.Need-overflow_add-result
 unfolding masked_events
-add-result c = ends (one c.before.before.before.before.before.before) c.before.before.put-mask.ensures
+add_result c = ends (one c.before.before.before.before.before.before) c.put_mask.ensures
 
-same_length : tie.Need-same-length
+same_length : tie.Need-shape_of-log
 unfolding masked_events
 same_length c = keeps (two c.before.before)
 
@@ -69,15 +69,15 @@ returns : tie.Need-returns
 unfolding masked_events
 returns c = whole (two c.before.before)
 
-pub put-masked-read-spec : {M : Type 1} → statement M
-put-masked-read-spec =
+pub put_masked_read_spec : {M : Type 1} → statement M
+put_masked_read_spec =
     tie.close
     (tie.spec
-    put-register-requires
-    sub-put-mask
-    part-put-mask-start
-    part-put-mask-end
-    put-mask-requires
-    add-result
+    put_register_requires
+    sub_put_mask
+    part_put_mask_start
+    part_put_mask_end
+    put_mask_requires
+    add_result
     same_length
     returns)

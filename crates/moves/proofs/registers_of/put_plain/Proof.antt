@@ -3,47 +3,47 @@ use borrow.Author.Rules.{rules}
 use Rattle.moves.proofs.registers_of.put_plain.Statement.{statement}
 use Rattle.moves.proofs.registers_of.put_plain.Tie as tie
 
-enum_told : tie.Need-enum-told
+enum_told : tie.Need-enum_told-1
 enum_told c = search rules
 
-put-register-requires : tie.Need-put-register-requires
+put_register_requires : tie.Need-put_register-requires
 unfolding plain_events
-put-register-requires c κs = rw c.before.enum_told.given.1 at c.before.before.before.before.requires
+put_register_requires c κs = rw c.in-Read.is at c.requires
 
-enum-told-2 : tie.Need-enum-told-2
-enum-told-2 c = search rules
+enum_told_2 : tie.Need-enum_told-in-Write
+enum_told_2 c = search rules
 
-apply-x86-zext-requires : tie.Need-apply-x86-zext-requires
-apply-x86-zext-requires c κs = search rules
+apply_x86_zext_requires : tie.Need-apply_x86_zext-requires
+apply_x86_zext_requires c κs = search rules
 
-put-register-requires-2 : tie.Need-put-register-requires-2
+put_register_requires_2 : tie.Need-put_register-requires-in-Write
 unfolding plain_events
-put-register-requires-2 c κs = rw c.apply-x86-zext.ensures (rw c.before.before.enum-told2.given.1 at c.before.before.before.before.before.requires)
+put_register_requires_2 c κs = rw c.apply_x86_zext.ensures (rw c.in-Write.is at c.requires)
 
-same_length : tie.Need-same-length
+same_length : tie.Need-shape_of-log-in-Read
 same_length c = search rules
 
-returns : tie.Need-returns
+returns : tie.Need-returns-in-Read
 unfolding plain_events
-returns c = rw c.before.before.before.before.enum_told.given.1 c.before.before.put-register.ensures
+returns c = rw c.in-Read.is c.put_register.ensures
 
-same-length-2 : tie.Need-same-length-2
-same-length-2 c = search rules
+same_length_2 : tie.Need-shape_of-log-in-Write
+same_length_2 c = search rules
 
-returns-2 : tie.Need-returns-2
+returns_2 : tie.Need-returns-in-Write
 unfolding plain_events
-returns-2 c = rw (c.before.before.before.before.before.enum-told2.given.1, ← c.before.before.before.apply-x86-zext.ensures) c.before.before.put-register2.ensures
+returns_2 c = rw (c.in-Write.is, ← c.apply_x86_zext.ensures) c.put_register-in-Write.ensures
 
-pub put-plain-spec : {M : Type 1} → statement M
-put-plain-spec =
+pub put_plain_spec : {M : Type 1} → statement M
+put_plain_spec =
     tie.close
     (tie.spec
     enum_told
-    put-register-requires
-    enum-told-2
-    apply-x86-zext-requires
-    put-register-requires-2
+    put_register_requires
+    enum_told_2
+    apply_x86_zext_requires
+    put_register_requires_2
     same_length
     returns
-    same-length-2
-    returns-2)
+    same_length_2
+    returns_2)

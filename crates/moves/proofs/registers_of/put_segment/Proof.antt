@@ -7,25 +7,25 @@ use borrow.Author.Rules.{rules}
 use Rattle.moves.proofs.registers_of.put_segment.Statement.{statement}
 use Rattle.moves.proofs.registers_of.put_segment.Tie as tie
 
-returns : tie.Need-returns
+returns : tie.Need-returns-then-segment-eq0
 unfolding segment_registers moved
-returns c = rw (eq-eqb _ _ c.if1.true) (silent event_bytes c.before.before.args.log.now)
+returns c = rw (eq-eqb _ _ c.if-segment-eq0.true) (silent event_bytes c.args.log.now)
 
-segment-register-requires : tie.Need-segment-register-requires
-segment-register-requires c κs = search rules
+segment_register_requires : tie.Need-segment_register-requires
+segment_register_requires c κs = search rules
 
-put-register-requires : tie.Need-put-register-requires
+put_register_requires : tie.Need-put_register-requires
 unfolding segment_registers moved
-put-register-requires c κs = rw c.segment-register.ensures (rw (ne_eqb _ _ c.before.before.if1.false) at c.before.before.before.before.requires)
+put_register_requires c κs = rw c.segment_register.ensures (rw (ne_eqb _ _ c.if-segment-eq0.false) at c.requires)
 
-same_length : tie.Need-same-length
+same_length : tie.Need-shape_of-log
 same_length c = search rules
 
-returns-2 : tie.Need-returns-2
+returns_2 : tie.Need-returns
 unfolding segment_registers moved
-returns-2 c = rw (ne_eqb _ _ c.before.before.before.before.before.if1.false, ← c.before.before.before.segment-register.ensures) c.before.before.put-register.ensures
+returns_2 c = rw (ne_eqb _ _ c.if-segment-eq0.false, ← c.segment_register.ensures) c.put_register.ensures
 
-pub put-segment-spec : {M : Type 1} → statement M
-put-segment-spec =
+pub put_segment_spec : {M : Type 1} → statement M
+put_segment_spec =
     tie.close
-    (tie.spec returns segment-register-requires put-register-requires same_length returns-2)
+    (tie.spec returns segment_register_requires put_register_requires same_length returns_2)

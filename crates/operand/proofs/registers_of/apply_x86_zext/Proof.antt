@@ -3,13 +3,13 @@ use Rattle.definition.specs.Steps.{widened}
 use Rattle.operand.proofs.registers_of.apply_x86_zext.Statement.{statement}
 use Rattle.operand.proofs.registers_of.apply_x86_zext.Tie as tie
 
-returns : tie.Need-returns
+returns : tie.Need-returns-then-y-eq1
 unfolding widened
-returns c = rw (eq-eqb _ _ c.if1.true)
+returns c = rw (eq-eqb _ _ c.if-y-eq1.true)
 
-returns-2 : tie.Need-returns-2
+returns_2 : tie.Need-returns-else-y-eq1
 unfolding widened
-returns-2 c = rw (ne_eqb _ _ c.if1.false)
+returns_2 c = rw (ne_eqb _ _ c.if-y-eq1.false)
 
-pub apply-x86-zext-spec : {M : Type 1} → statement M
-apply-x86-zext-spec = tie.close (tie.spec returns returns-2)
+pub apply_x86_zext_spec : {M : Type 1} → statement M
+apply_x86_zext_spec = tie.close (tie.spec returns returns_2)

@@ -2,14 +2,14 @@ use borrow.Author.Rules.{rules}
 use Rattle.operand.proofs.registers_of.fourth_of.Statement.{statement}
 use Rattle.operand.proofs.registers_of.fourth_of.Tie as tie
 
-reg-in-requires : tie.Need-reg-in-requires
-reg-in-requires c κs = search rules
+reg_in_requires : tie.Need-reg_in-requires
+reg_in_requires c κs = search rules
 
-low-imm-in-requires : tie.Need-low-imm-in-requires
-low-imm-in-requires c κs = search rules
+low_imm_in_requires : tie.Need-low_imm_in-requires
+low_imm_in_requires c κs = search rules
 
 returns : tie.Need-returns
-returns c = rw (c.before.Reg-in.ensures, c.low-imm-in.ensures)
+returns c = rw (c.reg_in.ensures, c.low_imm_in.ensures)
 
-pub fourth-of-spec : {M : Type 1} → statement M
-fourth-of-spec = tie.close (tie.spec reg-in-requires low-imm-in-requires returns)
+pub fourth_of_spec : {M : Type 1} → statement M
+fourth_of_spec = tie.close (tie.spec reg_in_requires low_imm_in_requires returns)

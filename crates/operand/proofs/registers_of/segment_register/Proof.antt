@@ -3,13 +3,13 @@ use Rattle.definition.specs.Addresses.{segment_register}
 use Rattle.operand.proofs.registers_of.segment_register.Statement.{statement}
 use Rattle.operand.proofs.registers_of.segment_register.Tie as tie
 
-returns : tie.Need-returns
+returns : tie.Need-returns-then-segment-eq1
 unfolding segment_register
-returns c = rw (eq-eqb _ _ c.if1.true)
+returns c = rw (eq-eqb _ _ c.if-segment-eq1.true)
 
-returns-2 : tie.Need-returns-2
+returns_2 : tie.Need-returns-else-segment-eq1
 unfolding segment_register
-returns-2 c = rw (ne_eqb _ _ c.if1.false)
+returns_2 c = rw (ne_eqb _ _ c.if-segment-eq1.false)
 
-pub segment-register-spec : {M : Type 1} → statement M
-segment-register-spec = tie.close (tie.spec returns returns-2)
+pub segment_register_spec : {M : Type 1} → statement M
+segment_register_spec = tie.close (tie.spec returns returns_2)

@@ -7,5 +7,5 @@ returns : tie.Need-returns
 unfolding any is_in
 returns c = simp (or_assoc, or-false)
 
-pub is-string-spec : {M : Type 1} → statement M
-is-string-spec = tie.close (tie.spec returns)
+pub is_string_spec : {M : Type 1} → statement M
+is_string_spec = tie.close (tie.spec returns)

@@ -7,5 +7,5 @@ returns : tie.Need-returns
 unfolding takes_base
 returns c = refl
 
-pub takes-base-spec : {M : Type 1} → statement M
-takes-base-spec = tie.close (tie.spec returns)
+pub takes_base_spec : {M : Type 1} → statement M
+takes_base_spec = tie.close (tie.spec returns)

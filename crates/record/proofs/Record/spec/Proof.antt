@@ -1,5 +1,5 @@
 use mathlib.Core.Path.{◌≡◌, ◌∙◌}
-use lib.ListN.{length, length-map}
+use lib.ListN.{length}
 use Rattle.record.proofs.Laws.{four_of_lem}
 use borrow.Author.Rules.{rules}
 use Rattle.record.proofs.Record.spec.Statement.{statement}
@@ -21,7 +21,7 @@ one_of_requires : tie.Need-one_of-requires
 one_of_requires c κs = search rules
 
 returns : tie.Need-returns
-returns c = let l = c.args.self.specs in let four : length l ≡ 4 = simp length-map at c.well_formed.0.1.1.1.1.0.1.0.1 in c.one_of.ensures ∙ four_of_lem l four c.args.i
+returns c = let l = c.args.self.specs in let four : length l ≡ 4 = c.well_formed.0.1.1.1.1.0.1.0.1 in c.one_of.ensures ∙ four_of_lem l four c.args.i
 
 pub spec_spec : {M : Type 1} → statement M
 spec_spec =
