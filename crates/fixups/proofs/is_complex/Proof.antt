@@ -23,21 +23,21 @@ unfolding complex
 returns_2 c =
     let s = c in
     let opcode = s.args.x.opcode in
-    rw (sym s.is_complex.ensures ∙ not-false _ s.if-not-is_complex.false, le-leb 24 opcode (omega arith), le-leb opcode 27 (omega arith))
+    rw (sym s.is_complex.ensures ∙ s.if-not-is_complex.false, le-leb 24 opcode (omega arith), le-leb opcode 27 (omega arith))
 
 returns_3 : tie.Need-returns-in_default
 unfolding complex
 returns_3 c =
     let s = c in
     let opcode = s.args.x.opcode in
-    rw (sym s.is_complex.ensures ∙ not-false _ s.if-not-is_complex.false, lt-leb 24 opcode (omega arith))
+    rw (sym s.is_complex.ensures ∙ s.if-not-is_complex.false, lt-leb 24 opcode (omega arith))
 
 returns_4 : tie.Need-returns-in_default-2
 unfolding complex
 returns_4 c =
     let s = c in
     let opcode = s.args.x.opcode in
-    rw (sym s.is_complex.ensures ∙ not-false _ s.if-not-is_complex.false, lt-leb opcode 27 (omega arith), and-false)
+    rw (sym s.is_complex.ensures ∙ s.if-not-is_complex.false, lt-leb opcode 27 (omega arith), and-false)
 
 pub is_complex_spec : {M : Type 1} → statement M
 is_complex_spec =

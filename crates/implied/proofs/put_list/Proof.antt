@@ -8,404 +8,404 @@ use Rattle.implied.specs.Implied.{lists, list_events}
 use Rattle.implied.proofs.put_list.Statement.{statement}
 use Rattle.implied.proofs.put_list.Tie as tie
 
-put-r-w-requires : tie.Need-put-r-w-requires
+put_r_w_requires : tie.Need-put_r_w-requires
 unfolding list_events
-put-r-w-requires c κs = rw c.before.match.keys1 at c.before.before.before.requires
+put_r_w_requires c κs = rw c.in-1.is at c.requires
 
-put-r-ww-requires : tie.Need-put-r-ww-requires
+put_r_ww_requires : tie.Need-put_r_ww-requires
 unfolding list_events
-put-r-ww-requires c κs = rw c.before.match.keys2 at c.before.before.before.requires
+put_r_ww_requires c κs = rw c.in-2.is at c.requires
 
-put-r-ww-requires-2 : tie.Need-put-r-ww-requires-2
+put_r_ww_requires_2 : tie.Need-put_r_ww-requires-in-3
 unfolding list_events
-put-r-ww-requires-2 c κs = rw c.before.match.keys3 at c.before.before.before.requires
+put_r_ww_requires_2 c κs = rw c.in-3.is at c.requires
 
-put-r-ww-requires-3 : tie.Need-put-r-ww-requires-3
+put_r_ww_requires_3 : tie.Need-put_r_ww-requires-in-4
 unfolding list_events
-put-r-ww-requires-3 c κs = rw c.before.match.keys4 at c.before.before.before.requires
+put_r_ww_requires_3 c κs = rw c.in-4.is at c.requires
 
-put-r-w-requires-2 : tie.Need-put-r-w-requires-2
+put_r_w_requires_2 : tie.Need-put_r_w-requires-in-5
 unfolding list_events
-put-r-w-requires-2 c κs = rw c.before.match.keys5 at c.before.before.before.requires
+put_r_w_requires_2 c κs = rw c.in-5.is at c.requires
 
-put-rr-ww-requires : tie.Need-put-rr-ww-requires
+put_rr_ww_requires : tie.Need-put_rr_ww-requires
 unfolding list_events
-put-rr-ww-requires c κs = rw c.before.match.keys6 at c.before.before.before.requires
+put_rr_ww_requires c κs = rw c.in-6.is at c.requires
 
-put-rr-ww-requires-2 : tie.Need-put-rr-ww-requires-2
+put_rr_ww_requires_2 : tie.Need-put_rr_ww-requires-in-7
 unfolding list_events
-put-rr-ww-requires-2 c κs = rw c.before.match.keys7 at c.before.before.before.requires
+put_rr_ww_requires_2 c κs = rw c.in-7.is at c.requires
 
-put-rr-ww-requires-3 : tie.Need-put-rr-ww-requires-3
+put_rr_ww_requires_3 : tie.Need-put_rr_ww-requires-in-8
 unfolding list_events
-put-rr-ww-requires-3 c κs = rw c.before.match.keys8 at c.before.before.before.requires
+put_rr_ww_requires_3 c κs = rw c.in-8.is at c.requires
 
-put-r-w-requires-3 : tie.Need-put-r-w-requires-3
+put_r_w_requires_3 : tie.Need-put_r_w-requires-in-9
 unfolding list_events
-put-r-w-requires-3 c κs = rw c.before.match.keys9 at c.before.before.before.requires
+put_r_w_requires_3 c κs = rw c.in-9.is at c.requires
 
-put-r-w-requires-4 : tie.Need-put-r-w-requires-4
+put_r_w_requires_4 : tie.Need-put_r_w-requires-in-10
 unfolding list_events
-put-r-w-requires-4 c κs = rw c.before.match.keys10 at c.before.before.before.requires
+put_r_w_requires_4 c κs = rw c.in-10.is at c.requires
 
-put-r-w-requires-5 : tie.Need-put-r-w-requires-5
+put_r_w_requires_5 : tie.Need-put_r_w-requires-in-11
 unfolding list_events
-put-r-w-requires-5 c κs = rw c.before.match.keys11 at c.before.before.before.requires
+put_r_w_requires_5 c κs = rw c.in-11.is at c.requires
 
-put-r-w-requires-6 : tie.Need-put-r-w-requires-6
+put_r_w_requires_6 : tie.Need-put_r_w-requires-in-12
 unfolding list_events
-put-r-w-requires-6 c κs = rw c.before.match.keys12 at c.before.before.before.requires
+put_r_w_requires_6 c κs = rw c.in-12.is at c.requires
 
-put-register-requires : tie.Need-put-register-requires
+put_register_requires : tie.Need-put_register-requires
 unfolding list_events
-put-register-requires c κs = rw c.before.match.keys13 at c.before.before.before.requires
+put_register_requires c κs = rw c.in-13.is at c.requires
 
-put-register-requires-2 : tie.Need-put-register-requires-2
+put_register_requires_2 : tie.Need-put_register-requires-in-14
 unfolding list_events
-put-register-requires-2 c κs = rw c.before.match.keys14 at c.before.before.before.requires
+put_register_requires_2 c κs = rw c.in-14.is at c.requires
 
-put-touch-requires : tie.Need-put-touch-requires
+put_touch_requires : tie.Need-put_touch-requires
 unfolding list_events
-put-touch-requires c κs = rw c.before.match.keys15 at c.before.before.before.requires
+put_touch_requires c κs = rw c.in-15.is at c.requires
 
-put-touch-requires-2 : tie.Need-put-touch-requires-2
+put_touch_requires_2 : tie.Need-put_touch-requires-in-16
 unfolding list_events
-put-touch-requires-2 c κs = rw c.before.match.keys16 at c.before.before.before.requires
+put_touch_requires_2 c κs = rw c.in-16.is at c.requires
 
-put-rr-w-requires : tie.Need-put-rr-w-requires
+put_rr_w_requires : tie.Need-put_rr_w-requires
 unfolding list_events
-put-rr-w-requires c κs = rw c.before.match.keys17 at c.before.before.before.requires
+put_rr_w_requires c κs = rw c.in-17.is at c.requires
 
-put-rr-w-requires-2 : tie.Need-put-rr-w-requires-2
+put_rr_w_requires_2 : tie.Need-put_rr_w-requires-in-18
 unfolding list_events
-put-rr-w-requires-2 c κs = rw c.before.match.keys18 at c.before.before.before.requires
+put_rr_w_requires_2 c κs = rw c.in-18.is at c.requires
 
-put-rr-w-requires-3 : tie.Need-put-rr-w-requires-3
+put_rr_w_requires_3 : tie.Need-put_rr_w-requires-in-19
 unfolding list_events
-put-rr-w-requires-3 c κs = rw c.before.match.keys19 at c.before.before.before.requires
+put_rr_w_requires_3 c κs = rw c.in-19.is at c.requires
 
-put-rr-w-requires-4 : tie.Need-put-rr-w-requires-4
+put_rr_w_requires_4 : tie.Need-put_rr_w-requires-in-20
 unfolding list_events
-put-rr-w-requires-4 c κs = rw c.before.match.keys20 at c.before.before.before.requires
+put_rr_w_requires_4 c κs = rw c.in-20.is at c.requires
 
-put-r-w-requires-7 : tie.Need-put-r-w-requires-7
+put_r_w_requires_7 : tie.Need-put_r_w-requires-in-21
 unfolding list_events
-put-r-w-requires-7 c κs = rw c.before.match.keys21 at c.before.before.before.requires
+put_r_w_requires_7 c κs = rw c.in-21.is at c.requires
 
-put-r-w-requires-8 : tie.Need-put-r-w-requires-8
+put_r_w_requires_8 : tie.Need-put_r_w-requires-in-22
 unfolding list_events
-put-r-w-requires-8 c κs = rw c.before.match.keys22 at c.before.before.before.requires
+put_r_w_requires_8 c κs = rw c.in-22.is at c.requires
 
-put-r-w-requires-9 : tie.Need-put-r-w-requires-9
+put_r_w_requires_9 : tie.Need-put_r_w-requires-in-23
 unfolding list_events
-put-r-w-requires-9 c κs = rw c.before.match.keys23 at c.before.before.before.requires
+put_r_w_requires_9 c κs = rw c.in-23.is at c.requires
 
-put-slot-requires : tie.Need-put-slot-requires
+put_slot_requires : tie.Need-put_slot-requires
 unfolding list_events
-put-slot-requires c κs = rw c.before.match.keys24 at c.before.before.before.requires
+put_slot_requires c κs = rw c.in-24.is at c.requires
 
-put-slots-requires : tie.Need-put-slots-requires
+put_slots_requires : tie.Need-put_slots-requires
 unfolding list_events
-put-slots-requires c κs = rw c.before.match.keys25 at c.before.before.before.requires
+put_slots_requires c κs = rw c.in-25.is at c.requires
 
-put-stack-requires : tie.Need-put-stack-requires
+put_stack_requires : tie.Need-put_stack-requires
 unfolding list_events
-put-stack-requires c κs = rw c.before.match.keys26 at c.before.before.before.requires
+put_stack_requires c κs = rw c.in-26.is at c.requires
 
-put-stack-requires-2 : tie.Need-put-stack-requires-2
+put_stack_requires_2 : tie.Need-put_stack-requires-in-27
 unfolding list_events
-put-stack-requires-2 c κs = rw c.before.match.keys27 at c.before.before.before.requires
+put_stack_requires_2 c κs = rw c.in-27.is at c.requires
 
-put-xlat-requires : tie.Need-put-xlat-requires
+put_xlat_requires : tie.Need-put_xlat-requires
 unfolding list_events
-put-xlat-requires c κs = rw c.before.match.keys28 at c.before.before.before.requires
+put_xlat_requires c κs = rw c.in-28.is at c.requires
 
-same_length : tie.Need-same-length
+same_length : tie.Need-shape_of-log-in-1
 same_length c = search rules
 
-returns : tie.Need-returns
+returns : tie.Need-returns-in-1
 unfolding list_events
-returns c = rw c.before.before.before.before.match.keys1 c.before.before.put-r-w.ensures
+returns c = rw c.in-1.is c.put_r_w.ensures
 
-same-length-2 : tie.Need-same-length-2
-same-length-2 c = search rules
+same_length_2 : tie.Need-shape_of-log-in-2
+same_length_2 c = search rules
 
-returns-2 : tie.Need-returns-2
+returns_2 : tie.Need-returns-in-2
 unfolding list_events
-returns-2 c = rw c.before.before.before.before.match.keys2 c.before.before.put-r-ww.ensures
+returns_2 c = rw c.in-2.is c.put_r_ww.ensures
 
-same-length-3 : tie.Need-same-length-3
-same-length-3 c = search rules
+same_length_3 : tie.Need-shape_of-log-in-3
+same_length_3 c = search rules
 
-returns-3 : tie.Need-returns-3
+returns_3 : tie.Need-returns-in-3
 unfolding list_events
-returns-3 c = rw c.before.before.before.before.match.keys3 c.before.before.put-r-ww2.ensures
+returns_3 c = rw c.in-3.is c.put_r_ww-in-3.ensures
 
-same-length-4 : tie.Need-same-length-4
-same-length-4 c = search rules
+same_length_4 : tie.Need-shape_of-log-in-4
+same_length_4 c = search rules
 
-returns-4 : tie.Need-returns-4
+returns_4 : tie.Need-returns-in-4
 unfolding list_events
-returns-4 c = rw c.before.before.before.before.match.keys4 c.before.before.put-r-ww3.ensures
+returns_4 c = rw c.in-4.is c.put_r_ww-in-4.ensures
 
-same-length-5 : tie.Need-same-length-5
-same-length-5 c = search rules
+same_length_5 : tie.Need-shape_of-log-in-5
+same_length_5 c = search rules
 
-returns-5 : tie.Need-returns-5
+returns_5 : tie.Need-returns-in-5
 unfolding list_events
-returns-5 c = rw c.before.before.before.before.match.keys5 c.before.before.put-r-w2.ensures
+returns_5 c = rw c.in-5.is c.put_r_w-in-5.ensures
 
-same-length-6 : tie.Need-same-length-6
-same-length-6 c = search rules
+same_length_6 : tie.Need-shape_of-log-in-6
+same_length_6 c = search rules
 
-returns-6 : tie.Need-returns-6
+returns_6 : tie.Need-returns-in-6
 unfolding list_events
-returns-6 c = rw c.before.before.before.before.match.keys6 c.before.before.put-rr-ww.ensures
+returns_6 c = rw c.in-6.is c.put_rr_ww.ensures
 
-same-length-7 : tie.Need-same-length-7
-same-length-7 c = search rules
+same_length_7 : tie.Need-shape_of-log-in-7
+same_length_7 c = search rules
 
-returns-7 : tie.Need-returns-7
+returns_7 : tie.Need-returns-in-7
 unfolding list_events
-returns-7 c = rw c.before.before.before.before.match.keys7 c.before.before.put-rr-ww2.ensures
+returns_7 c = rw c.in-7.is c.put_rr_ww-in-7.ensures
 
-same-length-8 : tie.Need-same-length-8
-same-length-8 c = search rules
+same_length_8 : tie.Need-shape_of-log-in-8
+same_length_8 c = search rules
 
-returns-8 : tie.Need-returns-8
+returns_8 : tie.Need-returns-in-8
 unfolding list_events
-returns-8 c = rw c.before.before.before.before.match.keys8 c.before.before.put-rr-ww3.ensures
+returns_8 c = rw c.in-8.is c.put_rr_ww-in-8.ensures
 
-same-length-9 : tie.Need-same-length-9
-same-length-9 c = search rules
+same_length_9 : tie.Need-shape_of-log-in-9
+same_length_9 c = search rules
 
-returns-9 : tie.Need-returns-9
+returns_9 : tie.Need-returns-in-9
 unfolding list_events
-returns-9 c = rw c.before.before.before.before.match.keys9 c.before.before.put-r-w3.ensures
+returns_9 c = rw c.in-9.is c.put_r_w-in-9.ensures
 
-same-length-10 : tie.Need-same-length-10
-same-length-10 c = search rules
+same_length_10 : tie.Need-shape_of-log-in-10
+same_length_10 c = search rules
 
-returns-10 : tie.Need-returns-10
+returns_10 : tie.Need-returns-in-10
 unfolding list_events
-returns-10 c = rw c.before.before.before.before.match.keys10 c.before.before.put-r-w4.ensures
+returns_10 c = rw c.in-10.is c.put_r_w-in-10.ensures
 
-same-length-11 : tie.Need-same-length-11
-same-length-11 c = search rules
+same_length_11 : tie.Need-shape_of-log-in-11
+same_length_11 c = search rules
 
-returns-11 : tie.Need-returns-11
+returns_11 : tie.Need-returns-in-11
 unfolding list_events
-returns-11 c = rw c.before.before.before.before.match.keys11 c.before.before.put-r-w5.ensures
+returns_11 c = rw c.in-11.is c.put_r_w-in-11.ensures
 
-same-length-12 : tie.Need-same-length-12
-same-length-12 c = search rules
+same_length_12 : tie.Need-shape_of-log-in-12
+same_length_12 c = search rules
 
-returns-12 : tie.Need-returns-12
+returns_12 : tie.Need-returns-in-12
 unfolding list_events
-returns-12 c = rw c.before.before.before.before.match.keys12 c.before.before.put-r-w6.ensures
+returns_12 c = rw c.in-12.is c.put_r_w-in-12.ensures
 
-same-length-13 : tie.Need-same-length-13
-same-length-13 c = search rules
+same_length_13 : tie.Need-shape_of-log-in-13
+same_length_13 c = search rules
 
-returns-13 : tie.Need-returns-13
+returns_13 : tie.Need-returns-in-13
 unfolding list_events
-returns-13 c = rw c.before.before.before.before.match.keys13 c.before.before.put-register.ensures
+returns_13 c = rw c.in-13.is c.put_register.ensures
 
-same-length-14 : tie.Need-same-length-14
-same-length-14 c = search rules
+same_length_14 : tie.Need-shape_of-log-in-14
+same_length_14 c = search rules
 
-returns-14 : tie.Need-returns-14
+returns_14 : tie.Need-returns-in-14
 unfolding list_events
-returns-14 c = rw c.before.before.before.before.match.keys14 c.before.before.put-register2.ensures
+returns_14 c = rw c.in-14.is c.put_register-in-14.ensures
 
-same-length-15 : tie.Need-same-length-15
-same-length-15 c = search rules
+same_length_15 : tie.Need-shape_of-log-in-15
+same_length_15 c = search rules
 
-returns-15 : tie.Need-returns-15
+returns_15 : tie.Need-returns-in-15
 unfolding list_events
-returns-15 c = rw c.before.before.before.before.match.keys15 c.before.before.put-touch.ensures
+returns_15 c = rw c.in-15.is c.put_touch.ensures
 
-same-length-16 : tie.Need-same-length-16
-same-length-16 c = search rules
+same_length_16 : tie.Need-shape_of-log-in-16
+same_length_16 c = search rules
 
-returns-16 : tie.Need-returns-16
+returns_16 : tie.Need-returns-in-16
 unfolding list_events
-returns-16 c = rw c.before.before.before.before.match.keys16 c.before.before.put-touch2.ensures
+returns_16 c = rw c.in-16.is c.put_touch-in-16.ensures
 
-same-length-17 : tie.Need-same-length-17
-same-length-17 c = search rules
+same_length_17 : tie.Need-shape_of-log-in-17
+same_length_17 c = search rules
 
-returns-17 : tie.Need-returns-17
+returns_17 : tie.Need-returns-in-17
 unfolding list_events
-returns-17 c = rw c.before.before.before.before.match.keys17 c.before.before.put-rr-w.ensures
+returns_17 c = rw c.in-17.is c.put_rr_w.ensures
 
-same-length-18 : tie.Need-same-length-18
-same-length-18 c = search rules
+same_length_18 : tie.Need-shape_of-log-in-18
+same_length_18 c = search rules
 
-returns-18 : tie.Need-returns-18
+returns_18 : tie.Need-returns-in-18
 unfolding list_events
-returns-18 c = rw c.before.before.before.before.match.keys18 c.before.before.put-rr-w2.ensures
+returns_18 c = rw c.in-18.is c.put_rr_w-in-18.ensures
 
-same-length-19 : tie.Need-same-length-19
-same-length-19 c = search rules
+same_length_19 : tie.Need-shape_of-log-in-19
+same_length_19 c = search rules
 
-returns-19 : tie.Need-returns-19
+returns_19 : tie.Need-returns-in-19
 unfolding list_events
-returns-19 c = rw c.before.before.before.before.match.keys19 c.before.before.put-rr-w3.ensures
+returns_19 c = rw c.in-19.is c.put_rr_w-in-19.ensures
 
-same-length-20 : tie.Need-same-length-20
-same-length-20 c = search rules
+same_length_20 : tie.Need-shape_of-log-in-20
+same_length_20 c = search rules
 
-returns-20 : tie.Need-returns-20
+returns_20 : tie.Need-returns-in-20
 unfolding list_events
-returns-20 c = rw c.before.before.before.before.match.keys20 c.before.before.put-rr-w4.ensures
+returns_20 c = rw c.in-20.is c.put_rr_w-in-20.ensures
 
-same-length-21 : tie.Need-same-length-21
-same-length-21 c = search rules
+same_length_21 : tie.Need-shape_of-log-in-21
+same_length_21 c = search rules
 
-returns-21 : tie.Need-returns-21
+returns_21 : tie.Need-returns-in-21
 unfolding list_events
-returns-21 c = rw c.before.before.before.before.match.keys21 c.before.before.put-r-w7.ensures
+returns_21 c = rw c.in-21.is c.put_r_w-in-21.ensures
 
-same-length-22 : tie.Need-same-length-22
-same-length-22 c = search rules
+same_length_22 : tie.Need-shape_of-log-in-22
+same_length_22 c = search rules
 
-returns-22 : tie.Need-returns-22
+returns_22 : tie.Need-returns-in-22
 unfolding list_events
-returns-22 c = rw c.before.before.before.before.match.keys22 c.before.before.put-r-w8.ensures
+returns_22 c = rw c.in-22.is c.put_r_w-in-22.ensures
 
-same-length-23 : tie.Need-same-length-23
-same-length-23 c = search rules
+same_length_23 : tie.Need-shape_of-log-in-23
+same_length_23 c = search rules
 
-returns-23 : tie.Need-returns-23
+returns_23 : tie.Need-returns-in-23
 unfolding list_events
-returns-23 c = rw c.before.before.before.before.match.keys23 c.before.before.put-r-w9.ensures
+returns_23 c = rw c.in-23.is c.put_r_w-in-23.ensures
 
-same-length-24 : tie.Need-same-length-24
-same-length-24 c = search rules
+same_length_24 : tie.Need-shape_of-log-in-24
+same_length_24 c = search rules
 
-returns-24 : tie.Need-returns-24
+returns_24 : tie.Need-returns-in-24
 unfolding list_events
-returns-24 c = rw c.before.before.before.before.match.keys24 c.before.before.put-slot.ensures
+returns_24 c = rw c.in-24.is c.put_slot.ensures
 
-same-length-25 : tie.Need-same-length-25
-same-length-25 c = search rules
+same_length_25 : tie.Need-shape_of-log-in-25
+same_length_25 c = search rules
 
-returns-25 : tie.Need-returns-25
+returns_25 : tie.Need-returns-in-25
 unfolding list_events
-returns-25 c = rw c.before.before.before.before.match.keys25 c.before.before.put-slots.ensures
+returns_25 c = rw c.in-25.is c.put_slots.ensures
 
-same-length-26 : tie.Need-same-length-26
-same-length-26 c = search rules
+same_length_26 : tie.Need-shape_of-log-in-26
+same_length_26 c = search rules
 
-returns-26 : tie.Need-returns-26
+returns_26 : tie.Need-returns-in-26
 unfolding list_events
-returns-26 c = rw c.before.before.before.before.match.keys26 c.before.before.put-stack.ensures
+returns_26 c = rw c.in-26.is c.put_stack.ensures
 
-same-length-27 : tie.Need-same-length-27
-same-length-27 c = search rules
+same_length_27 : tie.Need-shape_of-log-in-27
+same_length_27 c = search rules
 
-returns-27 : tie.Need-returns-27
+returns_27 : tie.Need-returns-in-27
 unfolding list_events
-returns-27 c = rw c.before.before.before.before.match.keys27 c.before.before.put-stack2.ensures
+returns_27 c = rw c.in-27.is c.put_stack-in-27.ensures
 
-same-length-28 : tie.Need-same-length-28
-same-length-28 c = search rules
+same_length_28 : tie.Need-shape_of-log-in-28
+same_length_28 c = search rules
 
-returns-28 : tie.Need-returns-28
+returns_28 : tie.Need-returns-in-28
 unfolding list_events
-returns-28 c = rw c.before.before.before.before.match.keys28 c.before.before.put-xlat.ensures
+returns_28 c = rw c.in-28.is c.put_xlat.ensures
 
-returns-29 : tie.Need-returns-29
+returns_29 : tie.Need-returns-in_default
 unfolding list_events
-returns-29 c = rw (otherwise [] (drop 1 (lists c.before.before.args.x c.before.before.args.at)) c.before.before.args.x.digest.extra c.match.rest) (silent event_bytes c.before.before.args.log.now)
+returns_29 c = rw (otherwise [] (drop 1 (lists c.args.x c.args.at)) c.args.x.digest.extra c.in_default.in_default-own.rest) (silent event_bytes c.args.log.now)
 
-pub put-list-spec : {M : Type 1} → statement M
-put-list-spec =
+pub put_list_spec : {M : Type 1} → statement M
+put_list_spec =
     tie.close
     (tie.spec
-    put-r-w-requires
-    put-r-ww-requires
-    put-r-ww-requires-2
-    put-r-ww-requires-3
-    put-r-w-requires-2
-    put-rr-ww-requires
-    put-rr-ww-requires-2
-    put-rr-ww-requires-3
-    put-r-w-requires-3
-    put-r-w-requires-4
-    put-r-w-requires-5
-    put-r-w-requires-6
-    put-register-requires
-    put-register-requires-2
-    put-touch-requires
-    put-touch-requires-2
-    put-rr-w-requires
-    put-rr-w-requires-2
-    put-rr-w-requires-3
-    put-rr-w-requires-4
-    put-r-w-requires-7
-    put-r-w-requires-8
-    put-r-w-requires-9
-    put-slot-requires
-    put-slots-requires
-    put-stack-requires
-    put-stack-requires-2
-    put-xlat-requires
+    put_r_w_requires
+    put_r_ww_requires
+    put_r_ww_requires_2
+    put_r_ww_requires_3
+    put_r_w_requires_2
+    put_rr_ww_requires
+    put_rr_ww_requires_2
+    put_rr_ww_requires_3
+    put_r_w_requires_3
+    put_r_w_requires_4
+    put_r_w_requires_5
+    put_r_w_requires_6
+    put_register_requires
+    put_register_requires_2
+    put_touch_requires
+    put_touch_requires_2
+    put_rr_w_requires
+    put_rr_w_requires_2
+    put_rr_w_requires_3
+    put_rr_w_requires_4
+    put_r_w_requires_7
+    put_r_w_requires_8
+    put_r_w_requires_9
+    put_slot_requires
+    put_slots_requires
+    put_stack_requires
+    put_stack_requires_2
+    put_xlat_requires
     same_length
     returns
-    same-length-2
-    returns-2
-    same-length-3
-    returns-3
-    same-length-4
-    returns-4
-    same-length-5
-    returns-5
-    same-length-6
-    returns-6
-    same-length-7
-    returns-7
-    same-length-8
-    returns-8
-    same-length-9
-    returns-9
-    same-length-10
-    returns-10
-    same-length-11
-    returns-11
-    same-length-12
-    returns-12
-    same-length-13
-    returns-13
-    same-length-14
-    returns-14
-    same-length-15
-    returns-15
-    same-length-16
-    returns-16
-    same-length-17
-    returns-17
-    same-length-18
-    returns-18
-    same-length-19
-    returns-19
-    same-length-20
-    returns-20
-    same-length-21
-    returns-21
-    same-length-22
-    returns-22
-    same-length-23
-    returns-23
-    same-length-24
-    returns-24
-    same-length-25
-    returns-25
-    same-length-26
-    returns-26
-    same-length-27
-    returns-27
-    same-length-28
-    returns-28
-    returns-29)
+    same_length_2
+    returns_2
+    same_length_3
+    returns_3
+    same_length_4
+    returns_4
+    same_length_5
+    returns_5
+    same_length_6
+    returns_6
+    same_length_7
+    returns_7
+    same_length_8
+    returns_8
+    same_length_9
+    returns_9
+    same_length_10
+    returns_10
+    same_length_11
+    returns_11
+    same_length_12
+    returns_12
+    same_length_13
+    returns_13
+    same_length_14
+    returns_14
+    same_length_15
+    returns_15
+    same_length_16
+    returns_16
+    same_length_17
+    returns_17
+    same_length_18
+    returns_18
+    same_length_19
+    returns_19
+    same_length_20
+    returns_20
+    same_length_21
+    returns_21
+    same_length_22
+    returns_22
+    same_length_23
+    returns_23
+    same_length_24
+    returns_24
+    same_length_25
+    returns_25
+    same_length_26
+    returns_26
+    same_length_27
+    returns_27
+    same_length_28
+    returns_28
+    returns_29)

@@ -24,40 +24,40 @@ room : (s : tie.Start) → size event_bytes (every s) ≤ length s.args.log.now
 unfolding flat
 room s = s.requires
 
-one : (c : tie.After-put-register) → let s = c.before.before.before in
-    Going event_bytes (every s) (seg1 s ∷ []) s.args.log.now c.put-register.new.0 c.put-register.result
+one : (c : tie.After-put_register-n) → let s = c.before.before.before in
+    Going event_bytes (every s) (seg1 s ∷ []) s.args.log.now c.put_register-n.new.log c.put_register-n.result
 unfolding flat
-one c = let s = c.before.before.before in first {seg = seg0 s} (seg1 s ∷ []) c.put-register.ensures (room s) s.well-formed.0.0
+one c = let s = c.before.before.before in first {seg = seg0 s} (seg1 s ∷ []) c.put_register-n.ensures (room s) s.well_formed.0.0
 
-two : (c : tie.After-put-register2) → let s = c.before.before.before.before.before.before.before in
-    Going event_bytes (every s) ([]) s.args.log.now (back c.before.before.before.before.put-register.new.0 c.before.before.before.before.put-register.result c.put-register2.new.0) (c.before.before.before.before.put-register.result + c.put-register2.result)
+two : (c : tie.After-put_register) → let s = c.before.before.before.before.before.before.before in
+    Going event_bytes (every s) ([]) s.args.log.now (back c.put_register-n.new.log c.put_register-n.result c.put_register.new.log) (c.put_register-n.result + c.put_register.result)
 unfolding flat
-two c = next (one c.before.before.before.before) c.put-register2.ensures
+two c = next (one c.before.before.before.before) c.put_register.ensures
 
-put-register-requires : tie.Need-put-register-requires
+put_register_requires : tie.Need-put_register-n-requires
 unfolding flat
-put-register-requires c κs = let s = c.before.before in fits_first event_bytes (seg0 s) (seg1 s ∷ []) (room s)
+put_register_requires c κs = let s = c.before.before in fits_first event_bytes (seg0 s) (seg1 s ∷ []) (room s)
 
-sub-put-register : tie.Need-overflow-sub-put-register
+sub_put_register : tie.Need-slice_bounds-put_register-count
 unfolding flat
-sub-put-register c = inside (one c.before.before)
+sub_put_register c = inside (one c.before.before)
 
-part-put-register-start : tie.Need-slice-bounds-put-register-start
+part_put_register_start : tie.Need-slice_bounds-put_register-start
 unfolding flat
-part-put-register-start c = inside (one c.before.before)
+part_put_register_start c = inside (one c.before.before)
 
-part-put-register-end : tie.Need-slice-bounds-put-register-end
-part-put-register-end c = search rules
+part_put_register_end : tie.Need-slice_bounds-put_register-end
+part_put_register_end c = search rules
 
-put-register-requires-2 : tie.Need-put-register-requires-2
+put_register_requires_2 : tie.Need-put_register-requires
 unfolding flat
-put-register-requires-2 c κs = fits (one c.before.before.before)
+put_register_requires_2 c κs = fits (one c.before.before.before)
 
-add-result : tie.Need-overflow-add-result
+add_result : tie.Need-overflow_add-result
 unfolding flat
-add-result c = ends (one c.before.before.before.before.before.before) c.before.before.put-register2.ensures
+add_result c = ends (one c.before.before.before.before.before.before) c.put_register.ensures
 
-same_length : tie.Need-same-length
+same_length : tie.Need-shape_of-log
 unfolding flat
 same_length c = keeps (two c.before.before)
 
@@ -65,15 +65,15 @@ returns : tie.Need-returns
 unfolding flat
 returns c = whole (two c.before.before)
 
-pub put-r-w-spec : {M : Type 1} → statement M
-put-r-w-spec =
+pub put_r_w_spec : {M : Type 1} → statement M
+put_r_w_spec =
     tie.close
     (tie.spec
-    put-register-requires
-    sub-put-register
-    part-put-register-start
-    part-put-register-end
-    put-register-requires-2
-    add-result
+    put_register_requires
+    sub_put_register
+    part_put_register_start
+    part_put_register_end
+    put_register_requires_2
+    add_result
     same_length
     returns)

@@ -24,40 +24,40 @@ room : (s : tie.Start) → size event_bytes (every s) ≤ length s.args.log.now
 unfolding flat
 room s = s.requires
 
-one : (c : tie.After-put-r-w) → let s = c.before.before.before in
-    Going event_bytes (every s) (seg1 s ∷ []) s.args.log.now c.put-r-w.new.0 c.put-r-w.result
+one : (c : tie.After-put_r_w-n) → let s = c.before.before.before in
+    Going event_bytes (every s) (seg1 s ∷ []) s.args.log.now c.put_r_w-n.new.log c.put_r_w-n.result
 unfolding flat
-one c = let s = c.before.before.before in first {seg = seg0 s} (seg1 s ∷ []) c.put-r-w.ensures (room s) s.well-formed.0.0
+one c = let s = c.before.before.before in first {seg = seg0 s} (seg1 s ∷ []) c.put_r_w-n.ensures (room s) s.well_formed.0.0
 
-two : (c : tie.After-put-register) → let s = c.before.before.before.before.before.before.before in
-    Going event_bytes (every s) ([]) s.args.log.now (back c.before.before.before.before.put-r-w.new.0 c.before.before.before.before.put-r-w.result c.put-register.new.0) (c.before.before.before.before.put-r-w.result + c.put-register.result)
+two : (c : tie.After-put_register) → let s = c.before.before.before.before.before.before.before in
+    Going event_bytes (every s) ([]) s.args.log.now (back c.put_r_w-n.new.log c.put_r_w-n.result c.put_register.new.log) (c.put_r_w-n.result + c.put_register.result)
 unfolding flat
-two c = next (one c.before.before.before.before) c.put-register.ensures
+two c = next (one c.before.before.before.before) c.put_register.ensures
 
-put-r-w-requires : tie.Need-put-r-w-requires
+put_r_w_requires : tie.Need-put_r_w-n-requires
 unfolding flat
-put-r-w-requires c κs = let s = c.before.before in fits_first event_bytes (seg0 s) (seg1 s ∷ []) (room s)
+put_r_w_requires c κs = let s = c.before.before in fits_first event_bytes (seg0 s) (seg1 s ∷ []) (room s)
 
-sub-put-register : tie.Need-overflow-sub-put-register
+sub_put_register : tie.Need-slice_bounds-put_register-count
 unfolding flat
-sub-put-register c = inside (one c.before.before)
+sub_put_register c = inside (one c.before.before)
 
-part-put-register-start : tie.Need-slice-bounds-put-register-start
+part_put_register_start : tie.Need-slice_bounds-put_register-start
 unfolding flat
-part-put-register-start c = inside (one c.before.before)
+part_put_register_start c = inside (one c.before.before)
 
-part-put-register-end : tie.Need-slice-bounds-put-register-end
-part-put-register-end c = search rules
+part_put_register_end : tie.Need-slice_bounds-put_register-end
+part_put_register_end c = search rules
 
-put-register-requires : tie.Need-put-register-requires
+put_register_requires : tie.Need-put_register-requires
 unfolding flat
-put-register-requires c κs = fits (one c.before.before.before)
+put_register_requires c κs = fits (one c.before.before.before)
 
-add-result : tie.Need-overflow-add-result
+add_result : tie.Need-overflow_add-result
 unfolding flat
-add-result c = ends (one c.before.before.before.before.before.before) c.before.before.put-register.ensures
+add_result c = ends (one c.before.before.before.before.before.before) c.put_register.ensures
 
-same_length : tie.Need-same-length
+same_length : tie.Need-shape_of-log
 unfolding flat
 same_length c = keeps (two c.before.before)
 
@@ -65,15 +65,15 @@ returns : tie.Need-returns
 unfolding flat
 returns c = whole (two c.before.before)
 
-pub put-r-ww-spec : {M : Type 1} → statement M
-put-r-ww-spec =
+pub put_r_ww_spec : {M : Type 1} → statement M
+put_r_ww_spec =
     tie.close
     (tie.spec
-    put-r-w-requires
-    sub-put-register
-    part-put-register-start
-    part-put-register-end
-    put-register-requires
-    add-result
+    put_r_w_requires
+    sub_put_register
+    part_put_register_start
+    part_put_register_end
+    put_register_requires
+    add_result
     same_length
     returns)

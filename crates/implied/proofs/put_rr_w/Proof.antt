@@ -24,40 +24,40 @@ room : (s : tie.Start) → size event_bytes (every s) ≤ length s.args.log.now
 unfolding flat
 room s = s.requires
 
-one : (c : tie.After-put-register) → let s = c.before.before.before in
-    Going event_bytes (every s) (seg1 s ∷ []) s.args.log.now c.put-register.new.0 c.put-register.result
+one : (c : tie.After-put_register-n) → let s = c.before.before.before in
+    Going event_bytes (every s) (seg1 s ∷ []) s.args.log.now c.put_register-n.new.log c.put_register-n.result
 unfolding flat
-one c = let s = c.before.before.before in first {seg = seg0 s} (seg1 s ∷ []) c.put-register.ensures (room s) s.well-formed.0.0
+one c = let s = c.before.before.before in first {seg = seg0 s} (seg1 s ∷ []) c.put_register-n.ensures (room s) s.well_formed.0.0
 
-two : (c : tie.After-put-r-w) → let s = c.before.before.before.before.before.before.before in
-    Going event_bytes (every s) ([]) s.args.log.now (back c.before.before.before.before.put-register.new.0 c.before.before.before.before.put-register.result c.put-r-w.new.0) (c.before.before.before.before.put-register.result + c.put-r-w.result)
+two : (c : tie.After-put_r_w) → let s = c.before.before.before.before.before.before.before in
+    Going event_bytes (every s) ([]) s.args.log.now (back c.put_register-n.new.log c.put_register-n.result c.put_r_w.new.log) (c.put_register-n.result + c.put_r_w.result)
 unfolding flat
-two c = next (one c.before.before.before.before) c.put-r-w.ensures
+two c = next (one c.before.before.before.before) c.put_r_w.ensures
 
-put-register-requires : tie.Need-put-register-requires
+put_register_requires : tie.Need-put_register-n-requires
 unfolding flat
-put-register-requires c κs = let s = c.before.before in fits_first event_bytes (seg0 s) (seg1 s ∷ []) (room s)
+put_register_requires c κs = let s = c.before.before in fits_first event_bytes (seg0 s) (seg1 s ∷ []) (room s)
 
-sub-put-r-w : tie.Need-overflow-sub-put-r-w
+sub_put_r_w : tie.Need-slice_bounds-put_r_w-count
 unfolding flat
-sub-put-r-w c = inside (one c.before.before)
+sub_put_r_w c = inside (one c.before.before)
 
-part-put-r-w-start : tie.Need-slice-bounds-put-r-w-start
+part_put_r_w_start : tie.Need-slice_bounds-put_r_w-start
 unfolding flat
-part-put-r-w-start c = inside (one c.before.before)
+part_put_r_w_start c = inside (one c.before.before)
 
-part-put-r-w-end : tie.Need-slice-bounds-put-r-w-end
-part-put-r-w-end c = search rules
+part_put_r_w_end : tie.Need-slice_bounds-put_r_w-end
+part_put_r_w_end c = search rules
 
-put-r-w-requires : tie.Need-put-r-w-requires
+put_r_w_requires : tie.Need-put_r_w-requires
 unfolding flat
-put-r-w-requires c κs = fits (one c.before.before.before)
+put_r_w_requires c κs = fits (one c.before.before.before)
 
-add-result : tie.Need-overflow-add-result
+add_result : tie.Need-overflow_add-result
 unfolding flat
-add-result c = ends (one c.before.before.before.before.before.before) c.before.before.put-r-w.ensures
+add_result c = ends (one c.before.before.before.before.before.before) c.put_r_w.ensures
 
-same_length : tie.Need-same-length
+same_length : tie.Need-shape_of-log
 unfolding flat
 same_length c = keeps (two c.before.before)
 
@@ -65,15 +65,15 @@ returns : tie.Need-returns
 unfolding flat
 returns c = whole (two c.before.before)
 
-pub put-rr-w-spec : {M : Type 1} → statement M
-put-rr-w-spec =
+pub put_rr_w_spec : {M : Type 1} → statement M
+put_rr_w_spec =
     tie.close
     (tie.spec
-    put-register-requires
-    sub-put-r-w
-    part-put-r-w-start
-    part-put-r-w-end
-    put-r-w-requires
-    add-result
+    put_register_requires
+    sub_put_r_w
+    part_put_r_w_start
+    part_put_r_w_end
+    put_r_w_requires
+    add_result
     same_length
     returns)

@@ -13,94 +13,94 @@ use borrow.Author.Rules.{rules}
 use Rattle.implied.proofs.put_slot.Statement.{statement}
 use Rattle.implied.proofs.put_slot.Tie as tie
 
-spec-requires : tie.Need-spec-requires
-spec-requires c κs = search rules
+spec_requires : tie.Need-spec-spec-requires
+spec_requires c κs = search rules
 
-element-copy-out-put-r-w : tie.Need-element-copy-out-put-r-w
-element-copy-out-put-r-w c = search rules
+element_copy_out_put_r_w : tie.Need-bounds-x-1
+element_copy_out_put_r_w c = search rules
 
-element-copy-out-put-r-w-2 : tie.Need-element-copy-out-put-r-w-2
-element-copy-out-put-r-w-2 c = search rules
+element_copy_out_put_r_w_2 : tie.Need-bounds-x-1-in-18
+element_copy_out_put_r_w_2 c = search rules
 
-put-r-w-requires : tie.Need-put-r-w-requires
+put_r_w_requires : tie.Need-put_r_w-requires
 unfolding slot_events slot_registers is_in any shape_of base_of shape_base term_registers moved flat
-put-r-w-requires c κs = rw (sym c.before.before.before.before.spec.ensures ∙ c.before.before.before.match.keys1) at c.before.before.before.before.before.before.requires
+put_r_w_requires c κs = rw (sym c.spec-spec.ensures ∙ c.in-18.is) at c.requires
 
-put-r-w-requires-2 : tie.Need-put-r-w-requires-2
+put_r_w_requires_2 : tie.Need-put_r_w-requires-in-20
 unfolding slot_events slot_registers is_in any shape_of base_of shape_base term_registers moved flat
-put-r-w-requires-2 c κs = rw (sym c.before.before.spec.ensures ∙ c.before.match.keys2) at c.before.before.before.before.requires
+put_r_w_requires_2 c κs = rw (sym c.spec-spec.ensures ∙ c.in-20.is) at c.requires
 
-put-r-w-requires-3 : tie.Need-put-r-w-requires-3
+put_r_w_requires_3 : tie.Need-put_r_w-requires-in-21
 unfolding slot_events slot_registers is_in any shape_of base_of shape_base term_registers moved flat
-put-r-w-requires-3 c κs = rw (sym c.before.before.spec.ensures ∙ c.before.match.keys3) at c.before.before.before.before.requires
+put_r_w_requires_3 c κs = rw (sym c.spec-spec.ensures ∙ c.in-21.is) at c.requires
 
-put-r-w-requires-4 : tie.Need-put-r-w-requires-4
+put_r_w_requires_4 : tie.Need-put_r_w-requires-in-22
 unfolding slot_events slot_registers is_in any shape_of base_of shape_base term_registers moved flat
-put-r-w-requires-4 c κs = rw (sym c.before.before.spec.ensures ∙ c.before.match.keys4) at c.before.before.before.before.requires
+put_r_w_requires_4 c κs = rw (sym c.spec-spec.ensures ∙ c.in-22.is) at c.requires
 
-put-r-w-requires-5 : tie.Need-put-r-w-requires-5
+put_r_w_requires_5 : tie.Need-put_r_w-requires-in-23
 unfolding slot_events slot_registers is_in any shape_of base_of shape_base term_registers moved flat
-put-r-w-requires-5 c κs = rw (sym c.before.before.spec.ensures ∙ c.before.match.keys5) at c.before.before.before.before.requires
+put_r_w_requires_5 c κs = rw (sym c.spec-spec.ensures ∙ c.in-23.is) at c.requires
 
-same_length : tie.Need-same-length
+same_length : tie.Need-shape_of-log-in-18
 same_length c = search rules
 
-returns : tie.Need-returns
+returns : tie.Need-returns-in-18
 unfolding slot_events slot_registers is_in any shape_of base_of shape_base term_registers moved flat
-returns c = rw (sym c.before.before.before.before.before.before.before.spec.ensures ∙ c.before.before.before.before.before.before.match.keys1) c.before.before.put-r-w.ensures
+returns c = rw (sym c.spec-spec.ensures ∙ c.in-18.is) c.put_r_w.ensures
 
-same-length-2 : tie.Need-same-length-2
-same-length-2 c = search rules
+same_length_2 : tie.Need-shape_of-log-in-20
+same_length_2 c = search rules
 
-returns-2 : tie.Need-returns-2
+returns_2 : tie.Need-returns-in-20
 unfolding slot_events slot_registers is_in any shape_of base_of shape_base term_registers moved flat
-returns-2 c = rw (sym c.before.before.before.before.before.spec.ensures ∙ c.before.before.before.before.match.keys2) c.before.before.put-r-w2.ensures
+returns_2 c = rw (sym c.spec-spec.ensures ∙ c.in-20.is) c.put_r_w-in-20.ensures
 
-same-length-3 : tie.Need-same-length-3
-same-length-3 c = search rules
+same_length_3 : tie.Need-shape_of-log-in-21
+same_length_3 c = search rules
 
-returns-3 : tie.Need-returns-3
+returns_3 : tie.Need-returns-in-21
 unfolding slot_events slot_registers is_in any shape_of base_of shape_base term_registers moved flat
-returns-3 c = rw (sym c.before.before.before.before.before.spec.ensures ∙ c.before.before.before.before.match.keys3) c.before.before.put-r-w3.ensures
+returns_3 c = rw (sym c.spec-spec.ensures ∙ c.in-21.is) c.put_r_w-in-21.ensures
 
-same-length-4 : tie.Need-same-length-4
-same-length-4 c = search rules
+same_length_4 : tie.Need-shape_of-log-in-22
+same_length_4 c = search rules
 
-returns-4 : tie.Need-returns-4
+returns_4 : tie.Need-returns-in-22
 unfolding slot_events slot_registers is_in any shape_of base_of shape_base term_registers moved flat
-returns-4 c = rw (sym c.before.before.before.before.before.spec.ensures ∙ c.before.before.before.before.match.keys4) c.before.before.put-r-w4.ensures
+returns_4 c = rw (sym c.spec-spec.ensures ∙ c.in-22.is) c.put_r_w-in-22.ensures
 
-same-length-5 : tie.Need-same-length-5
-same-length-5 c = search rules
+same_length_5 : tie.Need-shape_of-log-in-23
+same_length_5 c = search rules
 
-returns-5 : tie.Need-returns-5
+returns_5 : tie.Need-returns-in-23
 unfolding slot_events slot_registers is_in any shape_of base_of shape_base term_registers moved flat
-returns-5 c = rw (sym c.before.before.before.before.before.spec.ensures ∙ c.before.before.before.before.match.keys5) c.before.before.put-r-w5.ensures
+returns_5 c = rw (sym c.spec-spec.ensures ∙ c.in-23.is) c.put_r_w-in-23.ensures
 
-returns-6 : tie.Need-returns-6
+returns_6 : tie.Need-returns-in_default
 unfolding slot_events slot_registers moved flat
-returns-6 c = let r = c.match.rest in rw (← c.before.spec.ensures, in_none c.before.spec.result string_specs (r.0.0.0.0.1, (r.0.0.0.1, (r.0.0.1, (r.0.1, (r.1, tt)))))) (silent event_bytes c.before.before.before.args.log.now)
+returns_6 c = let r = c.in_default.in_default-own.rest in rw (← c.spec-spec.ensures, in_none c.spec-spec.result string_specs (r.0.0.0.0.1, (r.0.0.0.1, (r.0.0.1, (r.0.1, (r.1, tt)))))) (silent event_bytes c.args.log.now)
 
-pub put-slot-spec : {M : Type 1} → statement M
-put-slot-spec =
+pub put_slot_spec : {M : Type 1} → statement M
+put_slot_spec =
     tie.close
     (tie.spec
-    spec-requires
-    element-copy-out-put-r-w
-    element-copy-out-put-r-w-2
-    put-r-w-requires
-    put-r-w-requires-2
-    put-r-w-requires-3
-    put-r-w-requires-4
-    put-r-w-requires-5
+    spec_requires
+    element_copy_out_put_r_w
+    element_copy_out_put_r_w_2
+    put_r_w_requires
+    put_r_w_requires_2
+    put_r_w_requires_3
+    put_r_w_requires_4
+    put_r_w_requires_5
     same_length
     returns
-    same-length-2
-    returns-2
-    same-length-3
-    returns-3
-    same-length-4
-    returns-4
-    same-length-5
-    returns-5
-    returns-6)
+    same_length_2
+    returns_2
+    same_length_3
+    returns_3
+    same_length_4
+    returns_4
+    same_length_5
+    returns_5
+    returns_6)

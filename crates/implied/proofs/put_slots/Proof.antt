@@ -24,40 +24,40 @@ room : (s : tie.Start) → size event_bytes (every s) ≤ length s.args.log.now
 unfolding slots_events
 room s = s.requires
 
-one : (c : tie.After-put-slot) → let s = c.before.before.before in
-    Going event_bytes (every s) (seg1 s ∷ []) s.args.log.now c.put-slot.new.0 c.put-slot.result
+one : (c : tie.After-put_slot-n) → let s = c.before.before.before in
+    Going event_bytes (every s) (seg1 s ∷ []) s.args.log.now c.put_slot-n.new.log c.put_slot-n.result
 unfolding slots_events
-one c = let s = c.before.before.before in first {seg = seg0 s} (seg1 s ∷ []) c.put-slot.ensures (room s) s.well-formed.0.0
+one c = let s = c.before.before.before in first {seg = seg0 s} (seg1 s ∷ []) c.put_slot-n.ensures (room s) s.well_formed.0.0
 
-two : (c : tie.After-put-slot2) → let s = c.before.before.before.before.before.before.before in
-    Going event_bytes (every s) ([]) s.args.log.now (back c.before.before.before.before.put-slot.new.0 c.before.before.before.before.put-slot.result c.put-slot2.new.0) (c.before.before.before.before.put-slot.result + c.put-slot2.result)
+two : (c : tie.After-put_slot) → let s = c.before.before.before.before.before.before.before in
+    Going event_bytes (every s) ([]) s.args.log.now (back c.put_slot-n.new.log c.put_slot-n.result c.put_slot.new.log) (c.put_slot-n.result + c.put_slot.result)
 unfolding slots_events
-two c = next (one c.before.before.before.before) c.put-slot2.ensures
+two c = next (one c.before.before.before.before) c.put_slot.ensures
 
-put-slot-requires : tie.Need-put-slot-requires
+put_slot_requires : tie.Need-put_slot-n-requires
 unfolding slots_events
-put-slot-requires c κs = let s = c.before.before in fits_first event_bytes (seg0 s) (seg1 s ∷ []) (room s)
+put_slot_requires c κs = let s = c.before.before in fits_first event_bytes (seg0 s) (seg1 s ∷ []) (room s)
 
-sub-put-slot : tie.Need-overflow-sub-put-slot
+sub_put_slot : tie.Need-slice_bounds-put_slot-count
 unfolding slots_events
-sub-put-slot c = inside (one c.before.before)
+sub_put_slot c = inside (one c.before.before)
 
-part-put-slot-start : tie.Need-slice-bounds-put-slot-start
+part_put_slot_start : tie.Need-slice_bounds-put_slot-start
 unfolding slots_events
-part-put-slot-start c = inside (one c.before.before)
+part_put_slot_start c = inside (one c.before.before)
 
-part-put-slot-end : tie.Need-slice-bounds-put-slot-end
-part-put-slot-end c = search rules
+part_put_slot_end : tie.Need-slice_bounds-put_slot-end
+part_put_slot_end c = search rules
 
-put-slot-requires-2 : tie.Need-put-slot-requires-2
+put_slot_requires_2 : tie.Need-put_slot-requires
 unfolding slots_events
-put-slot-requires-2 c κs = fits (one c.before.before.before)
+put_slot_requires_2 c κs = fits (one c.before.before.before)
 
-add-result : tie.Need-overflow-add-result
+add_result : tie.Need-overflow_add-result
 unfolding slots_events
-add-result c = ends (one c.before.before.before.before.before.before) c.before.before.put-slot2.ensures
+add_result c = ends (one c.before.before.before.before.before.before) c.put_slot.ensures
 
-same_length : tie.Need-same-length
+same_length : tie.Need-shape_of-log
 unfolding slots_events
 same_length c = keeps (two c.before.before)
 
@@ -65,15 +65,15 @@ returns : tie.Need-returns
 unfolding slots_events
 returns c = whole (two c.before.before)
 
-pub put-slots-spec : {M : Type 1} → statement M
-put-slots-spec =
+pub put_slots_spec : {M : Type 1} → statement M
+put_slots_spec =
     tie.close
     (tie.spec
-    put-slot-requires
-    sub-put-slot
-    part-put-slot-start
-    part-put-slot-end
-    put-slot-requires-2
-    add-result
+    put_slot_requires
+    sub_put_slot
+    part_put_slot_start
+    part_put_slot_end
+    put_slot_requires_2
+    add_result
     same_length
     returns)

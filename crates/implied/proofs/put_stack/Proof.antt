@@ -26,40 +26,40 @@ room : (s : tie.Start) → size event_bytes (every s) ≤ length s.args.log.now
 unfolding flat
 room s = s.requires
 
-one : (c : tie.After-put-r-w) → let s = c.before.before.before in
-    Going event_bytes (every s) (seg1 s ∷ []) s.args.log.now c.put-r-w.new.0 c.put-r-w.result
+one : (c : tie.After-put_r_w-n) → let s = c.before.before.before in
+    Going event_bytes (every s) (seg1 s ∷ []) s.args.log.now c.put_r_w-n.new.log c.put_r_w-n.result
 unfolding flat
-one c = let s = c.before.before.before in first {seg = seg0 s} (seg1 s ∷ []) c.put-r-w.ensures (room s) s.well-formed.0.0
+one c = let s = c.before.before.before in first {seg = seg0 s} (seg1 s ∷ []) c.put_r_w-n.ensures (room s) s.well_formed.0.0
 
-two : (c : tie.After-put-touch) → let s = c.before.before.before.before.before.before.before in
-    Going event_bytes (every s) ([]) s.args.log.now (back c.before.before.before.before.put-r-w.new.0 c.before.before.before.before.put-r-w.result c.put-touch.new.0) (c.before.before.before.before.put-r-w.result + c.put-touch.result)
+two : (c : tie.After-put_touch) → let s = c.before.before.before.before.before.before.before in
+    Going event_bytes (every s) ([]) s.args.log.now (back c.put_r_w-n.new.log c.put_r_w-n.result c.put_touch.new.log) (c.put_r_w-n.result + c.put_touch.result)
 unfolding flat
-two c = next (one c.before.before.before.before) c.put-touch.ensures
+two c = next (one c.before.before.before.before) c.put_touch.ensures
 
-put-r-w-requires : tie.Need-put-r-w-requires
+put_r_w_requires : tie.Need-put_r_w-n-requires
 unfolding flat
-put-r-w-requires c κs = let s = c.before.before in fits_first event_bytes (seg0 s) (seg1 s ∷ []) (room s)
+put_r_w_requires c κs = let s = c.before.before in fits_first event_bytes (seg0 s) (seg1 s ∷ []) (room s)
 
-sub-put-touch : tie.Need-overflow-sub-put-touch
+sub_put_touch : tie.Need-slice_bounds-put_touch-count
 unfolding flat
-sub-put-touch c = inside (one c.before.before)
+sub_put_touch c = inside (one c.before.before)
 
-part-put-touch-start : tie.Need-slice-bounds-put-touch-start
+part_put_touch_start : tie.Need-slice_bounds-put_touch-start
 unfolding flat
-part-put-touch-start c = inside (one c.before.before)
+part_put_touch_start c = inside (one c.before.before)
 
-part-put-touch-end : tie.Need-slice-bounds-put-touch-end
-part-put-touch-end c = search rules
+part_put_touch_end : tie.Need-slice_bounds-put_touch-end
+part_put_touch_end c = search rules
 
-put-touch-requires : tie.Need-put-touch-requires
+put_touch_requires : tie.Need-put_touch-requires
 unfolding flat
-put-touch-requires c κs = fits (one c.before.before.before)
+put_touch_requires c κs = fits (one c.before.before.before)
 
-add-result : tie.Need-overflow-add-result
+add_result : tie.Need-overflow_add-result
 unfolding flat
-add-result c = ends (one c.before.before.before.before.before.before) c.before.before.put-touch.ensures
+add_result c = ends (one c.before.before.before.before.before.before) c.put_touch.ensures
 
-same_length : tie.Need-same-length
+same_length : tie.Need-shape_of-log
 unfolding flat
 same_length c = keeps (two c.before.before)
 
@@ -67,15 +67,15 @@ returns : tie.Need-returns
 unfolding flat
 returns c = whole (two c.before.before)
 
-pub put-stack-spec : {M : Type 1} → statement M
-put-stack-spec =
+pub put_stack_spec : {M : Type 1} → statement M
+put_stack_spec =
     tie.close
     (tie.spec
-    put-r-w-requires
-    sub-put-touch
-    part-put-touch-start
-    part-put-touch-end
-    put-touch-requires
-    add-result
+    put_r_w_requires
+    sub_put_touch
+    part_put_touch_start
+    part_put_touch_end
+    put_touch_requires
+    add_result
     same_length
     returns)

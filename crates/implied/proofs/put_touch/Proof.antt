@@ -25,40 +25,40 @@ room : (s : tie.Start) → size event_bytes (every s) ≤ length s.args.log.now
 unfolding flat
 room s = s.requires
 
-one : (c : tie.After-put-register) → let s = c.before.before.before in
-    Going event_bytes (every s) (seg1 s ∷ []) s.args.log.now c.put-register.new.0 c.put-register.result
+one : (c : tie.After-put_register-n) → let s = c.before.before.before in
+    Going event_bytes (every s) (seg1 s ∷ []) s.args.log.now c.put_register-n.new.log c.put_register-n.result
 unfolding flat
-one c = let s = c.before.before.before in first {seg = seg0 s} (seg1 s ∷ []) c.put-register.ensures (room s) s.well-formed.0.0
+one c = let s = c.before.before.before in first {seg = seg0 s} (seg1 s ∷ []) c.put_register-n.ensures (room s) s.well_formed.0.0
 
-two : (c : tie.After-put-memory) → let s = c.before.before.before.before.before.before.before in
-    Going event_bytes (every s) ([]) s.args.log.now (back c.before.before.before.before.put-register.new.0 c.before.before.before.before.put-register.result c.put-memory.new.0) (c.before.before.before.before.put-register.result + c.put-memory.result)
+two : (c : tie.After-put_memory) → let s = c.before.before.before.before.before.before.before in
+    Going event_bytes (every s) ([]) s.args.log.now (back c.put_register-n.new.log c.put_register-n.result c.put_memory.new.log) (c.put_register-n.result + c.put_memory.result)
 unfolding flat
-two c = next (one c.before.before.before.before) c.put-memory.ensures
+two c = next (one c.before.before.before.before) c.put_memory.ensures
 
-put-register-requires : tie.Need-put-register-requires
+put_register_requires : tie.Need-put_register-n-requires
 unfolding flat
-put-register-requires c κs = let s = c.before.before in fits_first event_bytes (seg0 s) (seg1 s ∷ []) (room s)
+put_register_requires c κs = let s = c.before.before in fits_first event_bytes (seg0 s) (seg1 s ∷ []) (room s)
 
-sub-put-memory : tie.Need-overflow-sub-put-memory
+sub_put_memory : tie.Need-slice_bounds-put_memory-count
 unfolding flat
-sub-put-memory c = inside (one c.before.before)
+sub_put_memory c = inside (one c.before.before)
 
-part-put-memory-start : tie.Need-slice-bounds-put-memory-start
+part_put_memory_start : tie.Need-slice_bounds-put_memory-start
 unfolding flat
-part-put-memory-start c = inside (one c.before.before)
+part_put_memory_start c = inside (one c.before.before)
 
-part-put-memory-end : tie.Need-slice-bounds-put-memory-end
-part-put-memory-end c = search rules
+part_put_memory_end : tie.Need-slice_bounds-put_memory-end
+part_put_memory_end c = search rules
 
-put-memory-requires : tie.Need-put-memory-requires
+put_memory_requires : tie.Need-put_memory-requires
 unfolding flat
-put-memory-requires c κs = fits (one c.before.before.before)
+put_memory_requires c κs = fits (one c.before.before.before)
 
-add-result : tie.Need-overflow-add-result
+add_result : tie.Need-overflow_add-result
 unfolding flat
-add-result c = ends (one c.before.before.before.before.before.before) c.before.before.put-memory.ensures
+add_result c = ends (one c.before.before.before.before.before.before) c.put_memory.ensures
 
-same_length : tie.Need-same-length
+same_length : tie.Need-shape_of-log
 unfolding flat
 same_length c = keeps (two c.before.before)
 
@@ -66,15 +66,15 @@ returns : tie.Need-returns
 unfolding flat
 returns c = whole (two c.before.before)
 
-pub put-touch-spec : {M : Type 1} → statement M
-put-touch-spec =
+pub put_touch_spec : {M : Type 1} → statement M
+put_touch_spec =
     tie.close
     (tie.spec
-    put-register-requires
-    sub-put-memory
-    part-put-memory-start
-    part-put-memory-end
-    put-memory-requires
-    add-result
+    put_register_requires
+    sub_put_memory
+    part_put_memory_start
+    part_put_memory_end
+    put_memory_requires
+    add_result
     same_length
     returns)

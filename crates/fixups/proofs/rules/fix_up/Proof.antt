@@ -143,7 +143,7 @@ returns_15 : tie.Need-returns-in_default
 returns_15 c =
     let x = c.args.x in
     unruled x x.digest x.opcode
-    (⊎_elim (λ w. inl w.taken) (λ w. inr w.6.left) c.in_default.branch)
+    (⊎_elim (λ w. inl w.if-opcode-lt1-1.true) (λ w. inr w.if-opcode-lt24-1.false) c.in_default.branch-raw)
 
 pub fix_up_spec : {M : Type 1} → statement M
 fix_up_spec =

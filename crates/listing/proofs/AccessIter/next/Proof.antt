@@ -4,35 +4,35 @@ use borrow.Author.Rules.{rules}
 use Rattle.listing.proofs.AccessIter.next.Statement.{statement}
 use Rattle.listing.proofs.AccessIter.next.Tie as tie
 
-explicit-next-requires : tie.Need-explicit-next-requires
-explicit-next-requires c κs = search rules
+explicit_next_requires : tie.Need-explicit_next-requires
+explicit_next_requires c κs = search rules
 
-returns : tie.Need-returns
-returns c = let s = c.before.before.args in c.explicit-next.ensures ∙ sym (at_explicit s.x s.self c.before.if1.true)
+returns : tie.Need-returns-then-self
+returns c = let s = c.args in c.explicit_next.ensures ∙ sym (at_explicit s.x s.self c.if-self.true)
 
-flags-next-requires : tie.Need-flags-next-requires
-flags-next-requires c κs = search rules
+flags_next_requires : tie.Need-flags_next-requires
+flags_next_requires c κs = search rules
 
-returns-2 : tie.Need-returns-2
-returns-2 c = let s = c.before.before.before.args in c.flags-next.ensures ∙ sym (at_flags s.x s.self c.before.before.if1.false c.before.if2.true)
+returns_2 : tie.Need-returns-then-at-eq0
+returns_2 c = let s = c.args in c.flags_next.ensures ∙ sym (at_flags s.x s.self c.if-self.false c.if-at-eq0.true)
 
-sub-implicit-next : tie.Need-overflow-sub-implicit-next
-sub-implicit-next c = search rules
+sub_implicit_next : tie.Need-overflow_sub-at
+sub_implicit_next c = search rules
 
-implicit-next-requires : tie.Need-implicit-next-requires
-implicit-next-requires c κs = search rules
+implicit_next_requires : tie.Need-implicit_next-requires
+implicit_next_requires c κs = search rules
 
-returns-3 : tie.Need-returns-3
-returns-3 c = let s = c.before.before.before.args in c.implicit-next.ensures ∙ sym (at_implicit s.x s.self c.before.before.if1.false c.before.if2.false)
+returns_3 : tie.Need-returns
+returns_3 c = let s = c.args in c.implicit_next.ensures ∙ sym (at_implicit s.x s.self c.if-self.false c.if-at-eq0.false)
 
-pub next-spec : {M : Type 1} → statement M
-next-spec =
+pub next_spec : {M : Type 1} → statement M
+next_spec =
     tie.close
     (tie.spec
-    explicit-next-requires
+    explicit_next_requires
     returns
-    flags-next-requires
-    returns-2
-    sub-implicit-next
-    implicit-next-requires
-    returns-3)
+    flags_next_requires
+    returns_2
+    sub_implicit_next
+    implicit_next_requires
+    returns_3)

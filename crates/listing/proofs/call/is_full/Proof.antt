@@ -7,23 +7,23 @@ use Rattle.laws.proofs.Room.{room_for_less}
 use Rattle.listing.proofs.call.is_full.Statement.{statement}
 use Rattle.listing.proofs.call.is_full.Tie as tie
 
-lacks-room-requires : tie.Need-lacks-room-requires
-lacks-room-requires c κs = search rules
+lacks_room_requires : tie.Need-lacks_room-requires
+lacks_room_requires c κs = search rules
 
-listing-length-requires : tie.Need-listing-length-requires
-listing-length-requires c κs = search rules
+listing_length_requires : tie.Need-listing_length-requires
+listing_length_requires c κs = search rules
 
-lacks-room-requires-2 : tie.Need-lacks-room-requires-2
-lacks-room-requires-2 c κs = search rules
+lacks_room_requires_2 : tie.Need-lacks_room-requires-then-lacks_room
+lacks_room_requires_2 c κs = search rules
 
-returns : tie.Need-returns
-returns c = rw (c.lacks-room2.ensures, c.before.listing-length.ensures)
+returns : tie.Need-returns-then-lacks_room
+returns c = rw (c.lacks_room-then-lacks_room.ensures, c.listing_length.ensures)
 
-returns-2 : tie.Need-returns-2
-returns-2 c =
-    let a = c.before.before.args in
-    sym (room_for_less most_listed _ a.start a.end (listing_bytes a.x) (sym c.before.lacks_room_lem.ensures ∙ c.if1.false))
+returns_2 : tie.Need-returns-else-lacks_room
+returns_2 c =
+    let a = c.args in
+    sym (room_for_less most_listed _ a.start a.end (listing_bytes a.x) (sym c.lacks_room.ensures ∙ c.if-lacks_room.false))
 
-pub is-full-spec : {M : Type 1} → statement M
-is-full-spec =
-    tie.close (tie.spec lacks-room-requires listing-length-requires lacks-room-requires-2 returns returns-2)
+pub is_full_spec : {M : Type 1} → statement M
+is_full_spec =
+    tie.close (tie.spec lacks_room_requires listing_length_requires lacks_room_requires_2 returns returns_2)

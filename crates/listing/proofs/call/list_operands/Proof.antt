@@ -4,39 +4,39 @@ use borrow.Author.Rules.{rules}
 use Rattle.listing.proofs.call.list_operands.Statement.{statement}
 use Rattle.listing.proofs.call.list_operands.Tie as tie
 
-from-bytes-requires : tie.Need-from-bytes-requires
-from-bytes-requires c κs = search rules
+from_bytes_requires : tie.Need-from_bytes-answer-requires
+from_bytes_requires c κs = search rules
 
-returns : tie.Need-returns
-returns c = let s = c.before.before.before.before.before.args in turned_down s.b.now s.out.now s.start c.before.before.from_bytes.ensures c.if1.true
+returns : tie.Need-returns-then-answer-ne0
+returns c = let s = c.args in turned_down s.b.now s.out.now s.start c.from_bytes-answer.ensures c.if-answer-ne0.true
 
-fixed-up-requires : tie.Need-fixed-up-requires
-fixed-up-requires c κs = search rules
+fixed_up_requires : tie.Need-fixed_up-x-requires
+fixed_up_requires c κs = search rules
 
-is-complex-requires : tie.Need-is-complex-requires
-is-complex-requires c κs = search rules
+is_complex_requires : tie.Need-is_complex-requires
+is_complex_requires c κs = search rules
 
-returns-2 : tie.Need-returns-2
-returns-2 c = let s = c.before.before.before.before.before.before.before.before.args in complex_one_lem s.b.now s.out.now s.start c.before.before.before.before.before.from_bytes.ensures c.before.before.before.if1.false c.before.before.fixed-up.ensures (sym c.before.is_complex_lem.ensures ∙ c.if2.true)
+returns_2 : tie.Need-returns-then-is_complex
+returns_2 c = let s = c.args in complex_one_lem s.b.now s.out.now s.start c.from_bytes-answer.ensures c.if-answer-ne0.false c.fixed_up-x.ensures (sym c.is_complex.ensures ∙ c.if-is_complex.true)
 
-list-record-requires : tie.Need-list-record-requires
-list-record-requires c κs = search rules
+list_record_requires : tie.Need-list_record-requires
+list_record_requires c κs = search rules
 
-same_length : tie.Need-same-length
+same_length : tie.Need-shape_of-out
 same_length c = search rules
 
-returns-3 : tie.Need-returns-3
-returns-3 c = let s = c.before.before.before.before.before.before.before.before.before.before.before.before.args in c.before.before.list-record.ensures ∙ by_room_lem s.b.now s.out.now s.start c.before.before.before.before.before.before.before.before.before.from_bytes.ensures c.before.before.before.before.before.before.before.if1.false c.before.before.before.before.before.before.fixed-up.ensures (sym c.before.before.before.before.before.is_complex_lem.ensures ∙ c.before.before.before.before.if2.false)
+returns_3 : tie.Need-returns
+returns_3 c = let s = c.args in c.list_record.ensures ∙ by_room_lem s.b.now s.out.now s.start c.from_bytes-answer.ensures c.if-answer-ne0.false c.fixed_up-x.ensures (sym c.is_complex.ensures ∙ c.if-is_complex.false)
 
-pub list-operands-spec : {M : Type 1} → statement M
-list-operands-spec =
+pub list_operands_spec : {M : Type 1} → statement M
+list_operands_spec =
     tie.close
     (tie.spec
-    from-bytes-requires
+    from_bytes_requires
     returns
-    fixed-up-requires
-    is-complex-requires
-    returns-2
-    list-record-requires
+    fixed_up_requires
+    is_complex_requires
+    returns_2
+    list_record_requires
     same_length
-    returns-3)
+    returns_3)

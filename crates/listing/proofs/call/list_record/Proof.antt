@@ -8,47 +8,47 @@ use Rattle.listing.proofs.Calls.{too_long, listing_room, fitting}
 use Rattle.listing.proofs.call.list_record.Statement.{statement}
 use Rattle.listing.proofs.call.list_record.Tie as tie
 
-is-full-requires : tie.Need-is-full-requires
-is-full-requires c κs = search rules
+is_full_requires : tie.Need-is_full-requires
+is_full_requires c κs = search rules
 
-listing-length-requires : tie.Need-listing-length-requires
-listing-length-requires c κs = search rules
+listing_length_requires : tie.Need-listing_length-requires
+listing_length_requires c κs = search rules
 
-sub-put-listing : tie.Need-overflow-sub-put-listing
-sub-put-listing c = let a = c.before.before.before.args in starts_inside (length (listing_of a.x)) a.start (length a.out.now) (sym c.before.is-full.ensures ∙ c.if1.false)
+sub_put_listing : tie.Need-slice_bounds-put_listing-count
+sub_put_listing c = let a = c.args in starts_inside (length (listing_of a.x)) a.start (length a.out.now) (sym c.is_full.ensures ∙ c.if-is_full.false)
 
-part-put-listing-start : tie.Need-slice-bounds-put-listing-start
-part-put-listing-start c = let a = c.before.before.before.args in starts_inside (length (listing_of a.x)) a.start (length a.out.now) (sym c.before.is-full.ensures ∙ c.if1.false)
+part_put_listing_start : tie.Need-slice_bounds-put_listing-start
+part_put_listing_start c = let a = c.args in starts_inside (length (listing_of a.x)) a.start (length a.out.now) (sym c.is_full.ensures ∙ c.if-is_full.false)
 
-part-put-listing-end : tie.Need-slice-bounds-put-listing-end
-part-put-listing-end c = search rules
+part_put_listing_end : tie.Need-slice_bounds-put_listing-end
+part_put_listing_end c = search rules
 
-put-listing-requires : tie.Need-put-listing-requires
-put-listing-requires c κs = let a = c.before.before.before.before.args in listing_room a.x a.out.now a.start (sym c.before.before.is-full.ensures ∙ c.before.if1.false)
+put_listing_requires : tie.Need-put_listing-requires
+put_listing_requires c κs = let a = c.args in listing_room a.x a.out.now a.start (sym c.is_full.ensures ∙ c.if-is_full.false)
 
-returns : tie.Need-returns
+returns : tie.Need-returns-then-is_full
 returns c =
-    let a = c.before.before.before.before.args in
-    too_long a.x a.out.now a.start (sym c.before.before.is-full.ensures ∙ c.before.if1.true) c.listing-length.ensures
+    let a = c.args in
+    too_long a.x a.out.now a.start (sym c.is_full.ensures ∙ c.if-is_full.true) c.listing_length.ensures
 
-same_length : tie.Need-same-length
+same_length : tie.Need-shape_of-out
 same_length c = search rules
 
-returns-2 : tie.Need-returns-2
-returns-2 c =
-    let a = c.before.before.before.before.before.before.before.args in
-    fitting a.x a.out.now a.start (sym c.before.before.before.before.before.is-full.ensures ∙ c.before.before.before.before.if1.false) c.before.before.put-listing.ensures
+returns_2 : tie.Need-returns-else-is_full
+returns_2 c =
+    let a = c.args in
+    fitting a.x a.out.now a.start (sym c.is_full.ensures ∙ c.if-is_full.false) c.put_listing.ensures
 
-pub list-record-spec : {M : Type 1} → statement M
-list-record-spec =
+pub list_record_spec : {M : Type 1} → statement M
+list_record_spec =
     tie.close
     (tie.spec
-    is-full-requires
-    listing-length-requires
-    sub-put-listing
-    part-put-listing-start
-    part-put-listing-end
-    put-listing-requires
+    is_full_requires
+    listing_length_requires
+    sub_put_listing
+    part_put_listing_start
+    part_put_listing_end
+    put_listing_requires
     returns
     same_length
-    returns-2)
+    returns_2)

@@ -4,14 +4,14 @@ use borrow.Author.Rules.{rules}
 use Rattle.listing.proofs.call.listing_length.Statement.{statement}
 use Rattle.listing.proofs.call.listing_length.Tie as tie
 
-slice-aggregate-put-listing : tie.Need-slice-aggregate-put-listing
-slice-aggregate-put-listing c = search rules
+slice_aggregate_put_listing : tie.Need-slice_bounds-put_listing-end
+slice_aggregate_put_listing c = search rules
 
-put-listing-requires : tie.Need-put-listing-requires
-put-listing-requires c κs = items_size c.before.args.x
+put_listing_requires : tie.Need-put_listing-requires
+put_listing_requires c κs = items_size c.args.x
 
 returns : tie.Need-returns
-returns c = c.before.put-listing.ensures.count
+returns c = c.put_listing.ensures.count
 
-pub listing-length-spec : {M : Type 1} → statement M
-listing-length-spec = tie.close (tie.spec slice-aggregate-put-listing put-listing-requires returns)
+pub listing_length_spec : {M : Type 1} → statement M
+listing_length_spec = tie.close (tie.spec slice_aggregate_put_listing put_listing_requires returns)

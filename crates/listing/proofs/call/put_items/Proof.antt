@@ -11,87 +11,87 @@ use borrow.Author.Rules.{rules}
 use Rattle.listing.proofs.call.put_items.Statement.{statement}
 use Rattle.listing.proofs.call.put_items.Tie as tie
 
-abbrev invariant-loop : tie.invariant-loop
+abbrev invariant-loop : tie.invariant-loop-item
 invariant-loop out₀ x n₀ c₀ out n c = Going item_bytes (items_of x) (items_from x c ∷ []) out₀ out n
 
-abbrev decreases-loop : tie.decreases-loop
+abbrev decreases-loop : tie.decreases-loop-item
 decreases-loop out₀ x n₀ c₀ out n c = length (items_from x c)
 
-new-requires : tie.Need-new-requires invariant-loop decreases-loop
-new-requires c κs = tt
+new_requires : tie.Need-new-c-requires invariant-loop decreases-loop
+new_requires c κs = tt
 
-loop-holds : tie.Need-loop-init invariant-loop decreases-loop
-loop-holds c = begins (ap (items_from c.before.before.args.x) c.new.ensures ∙ at_first c.before.before.args.x) c.before.before.requires c.before.before.well-formed.0.0
+loop_holds : tie.Need-loop-item-init invariant-loop decreases-loop
+loop_holds c = begins (ap (items_from c.args.x) c.new-c.ensures ∙ at_first c.args.x) c.requires c.well_formed.0.0
 
-next-requires : tie.Need-next-requires invariant-loop decreases-loop
-next-requires c κs = tt
+next_requires : tie.Need-next-r-requires invariant-loop decreases-loop
+next_requires c κs = tt
 
-enum-known-r : tie.Need-enum-known-r invariant-loop decreases-loop
-enum-known-r c = search rules
+enum_known_r : tie.Need-enum_known-r invariant-loop decreases-loop
+enum_known_r c = search rules
 
-enum_told : tie.Need-enum-told invariant-loop decreases-loop
+enum_told : tie.Need-enum_told-1 invariant-loop decreases-loop
 enum_told c = search rules
 
-same_length : tie.Need-same-length invariant-loop decreases-loop
-same_length c = keeps c.before.before.before.loop.invariant
+same_length : tie.Need-shape_of-out-in_default invariant-loop decreases-loop
+same_length c = keeps c.loop-item.invariant
 
-returns : tie.Need-returns invariant-loop decreases-loop
+returns : tie.Need-returns-in_default invariant-loop decreases-loop
 returns c =
-    let x = c.before.before.before.before.before.before.args.x in
-    no_more (left_by_lem x c.before.before.before.loop.c c.before.before.next.ensures ∙ ap (items_by x) c.enum_told.given.1) c.before.before.before.loop.invariant
+    let x = c.args.x in
+    no_more (left_by_lem x c.loop-item.c c.next-r.ensures ∙ ap (items_by x) c.in_default.is) c.loop-item.invariant
 
 -- an item that is left, and what is written when it comes
 here :
-    (c : tie.After-known-told invariant-loop decreases-loop)
-    → items_from c.before.before.before.before.before.before.before.args.x c.before.before.before.before.loop.c
-    ≡ c.before.r.given.0.0 ∷ items_from c.before.before.before.before.before.before.before.args.x c.before.r.given.0.1.0
+    (c : tie.In-Found invariant-loop decreases-loop)
+    → items_from c.args.x c.loop-item.c
+    ≡ c.in-Found.item ∷ items_from c.args.x c.in-Found.behind
 here c =
-    let x = c.before.before.before.before.before.before.before.args.x in
-    left_by_lem x c.before.before.before.before.loop.c c.before.before.before.next.ensures ∙ ap (items_by x) c.before.r.given.1
+    let x = c.args.x in
+    left_by_lem x c.loop-item.c c.next-r.ensures ∙ ap (items_by x) c.in-Found.is
 
 going :
-    (c : tie.After-known-told invariant-loop decreases-loop) → let s = c.before.before.before.before.before.before.before.args in let l = c.before.before.before.before.loop in
-    Going item_bytes (items_of s.x) ((c.before.r.given.0.0 ∷ []) ∷ items_from s.x c.before.r.given.0.1.0 ∷ []) s.out.now l.out l.n
-going c = one_more c.before.r.given.0.0 (items_from c.before.before.before.before.before.before.before.args.x c.before.r.given.0.1.0) (here c) c.before.before.before.before.loop.invariant
+    (c : tie.In-Found invariant-loop decreases-loop) → let s = c.args in let l = c.loop-item in
+    Going item_bytes (items_of s.x) ((c.in-Found.item ∷ []) ∷ items_from s.x c.in-Found.behind ∷ []) s.out.now l.out l.n
+going c = one_more c.in-Found.item (items_from c.args.x c.in-Found.behind) (here c) c.loop-item.invariant
 
-sub-put-item : tie.Need-overflow-sub-put-item invariant-loop decreases-loop
-sub-put-item c = inside (going c)
+sub_put_item : tie.Need-slice_bounds-put_item-count invariant-loop decreases-loop
+sub_put_item c = inside (going c)
 
-part-put-item-start : tie.Need-slice-bounds-put-item-start invariant-loop decreases-loop
-part-put-item-start c = inside (going c)
+part_put_item_start : tie.Need-slice_bounds-put_item-start invariant-loop decreases-loop
+part_put_item_start c = inside (going c)
 
-part-put-item-end : tie.Need-slice-bounds-put-item-end invariant-loop decreases-loop
-part-put-item-end c = search rules
+part_put_item_end : tie.Need-slice_bounds-put_item-end invariant-loop decreases-loop
+part_put_item_end c = search rules
 
-put-item-requires : tie.Need-put-item-requires invariant-loop decreases-loop
-put-item-requires c κs = fits (going c.before)
+put_item_requires : tie.Need-put_item-n-requires invariant-loop decreases-loop
+put_item_requires c κs = fits (going c.before)
 
-add-n : tie.Need-overflow-add-n invariant-loop decreases-loop
-add-n c = ends (going c.before.before.before.before) c.before.before.put_item.ensures
+add_n : tie.Need-overflow_add-n invariant-loop decreases-loop
+add_n c = ends (going c.before.before.before.before) c.put_item-n.ensures
 
-loop-less : tie.Need-loop-smaller invariant-loop decreases-loop
-loop-less c = omega (arith, ap length (here c.before.before.before.before))
+loop_less : tie.Need-loop-item-smaller invariant-loop decreases-loop
+loop_less c = omega (arith, ap length (here c.before.before.before.before))
 
-loop-again : tie.Need-loop-preserved invariant-loop decreases-loop
-loop-again c = next (going c.before.before.before.before) c.before.before.put_item.ensures
+loop_again : tie.Need-loop-item-preserved invariant-loop decreases-loop
+loop_again c = next (going c.before.before.before.before) c.put_item-n.ensures
 
-pub put-items-spec : {M : Type 1} → statement M
-put-items-spec =
+pub put_items_spec : {M : Type 1} → statement M
+put_items_spec =
     tie.close
     (tie.spec
     invariant-loop
     decreases-loop
-    new-requires
-    loop-holds
-    next-requires
-    enum-known-r
+    new_requires
+    loop_holds
+    next_requires
+    enum_known_r
     enum_told
     same_length
     returns
-    sub-put-item
-    part-put-item-start
-    part-put-item-end
-    put-item-requires
-    add-n
-    loop-less
-    loop-again)
+    sub_put_item
+    part_put_item_start
+    part_put_item_end
+    put_item_requires
+    add_n
+    loop_less
+    loop_again)

@@ -3,35 +3,35 @@ use borrow.Author.Rules.{rules}
 use Rattle.listing.proofs.call.put_listing.Statement.{statement}
 use Rattle.listing.proofs.call.put_listing.Tie as tie
 
-element-copy-out-put-fields : tie.Need-element-copy-out-put-fields
-element-copy-out-put-fields c = search rules
+element_copy_out_put_fields : tie.Need-bounds-x-0
+element_copy_out_put_fields c = search rules
 
-element-copy-out-put-fields-2 : tie.Need-element-copy-out-put-fields-2
-element-copy-out-put-fields-2 c = search rules
+element_copy_out_put_fields_2 : tie.Need-bounds-x-1
+element_copy_out_put_fields_2 c = search rules
 
-element-copy-out-put-fields-3 : tie.Need-element-copy-out-put-fields-3
-element-copy-out-put-fields-3 c = search rules
+element_copy_out_put_fields_3 : tie.Need-bounds-x-2
+element_copy_out_put_fields_3 c = search rules
 
-element-copy-out-put-fields-4 : tie.Need-element-copy-out-put-fields-4
-element-copy-out-put-fields-4 c = search rules
+element_copy_out_put_fields_4 : tie.Need-bounds-x-3
+element_copy_out_put_fields_4 c = search rules
 
-put-fields-requires : tie.Need-put-fields-requires
-put-fields-requires c κs = rw (listed_is c.before.before.before.before.before.before.before.args.t2) c.before.before.before.before.before.before.before.requires
+put_fields_requires : tie.Need-put_fields-requires
+put_fields_requires c κs = rw (listed_is c.args.x) c.requires
 
-same_length : tie.Need-same-length
+same_length : tie.Need-shape_of-out
 same_length c = search rules
 
 returns : tie.Need-returns
-returns c = rw (listed_is c.before.before.before.before.before.before.before.before.before.before.args.t2) at c.before.before.put-fields.ensures
+returns c = rw (listed_is c.args.x) at c.put_fields.ensures
 
-pub put-listing-spec : {M : Type 1} → statement M
-put-listing-spec =
+pub put_listing_spec : {M : Type 1} → statement M
+put_listing_spec =
     tie.close
     (tie.spec
-    element-copy-out-put-fields
-    element-copy-out-put-fields-2
-    element-copy-out-put-fields-3
-    element-copy-out-put-fields-4
-    put-fields-requires
+    element_copy_out_put_fields
+    element_copy_out_put_fields_2
+    element_copy_out_put_fields_3
+    element_copy_out_put_fields_4
+    put_fields_requires
     same_length
     returns)

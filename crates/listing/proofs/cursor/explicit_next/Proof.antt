@@ -5,20 +5,20 @@ use borrow.Author.Rules.{rules}
 use Rattle.listing.proofs.cursor.explicit_next.Statement.{statement}
 use Rattle.listing.proofs.cursor.explicit_next.Tie as tie
 
-returns : tie.Need-returns
-returns c = let s = c.before.before.args in sym (operand_none s.x s.i (inl c.if1.true))
+returns : tie.Need-returns-then-x-i
+returns c = let s = c.args in sym (operand_none s.x s.i (inl c.if-x-i.true))
 
-returns-2 : tie.Need-returns-2
-returns-2 c = let s = c.before.before.before.args in sym (operand_none s.x s.i (inr c.if2.true))
+returns_2 : tie.Need-returns-then-i-ge4
+returns_2 c = let s = c.args in sym (operand_none s.x s.i (inr c.if-i-ge4.true))
 
-explicit-item-requires : tie.Need-explicit-item-requires
-explicit-item-requires c κs = search rules
+explicit_item_requires : tie.Need-explicit_item-requires
+explicit_item_requires c κs = search rules
 
-add-t5 : tie.Need-overflow-add-t5
-add-t5 c = search rules
+add_t5 : tie.Need-overflow_add-result
+add_t5 c = search rules
 
-returns-3 : tie.Need-returns-3
-returns-3 c = let s = c.before.before.before.before.args in rw c.explicit-item.ensures (sym (operand_here s.x s.i c.before.before.if1.false c.before.if2.false))
+returns_3 : tie.Need-returns
+returns_3 c = let s = c.args in rw c.explicit_item.ensures (sym (operand_here s.x s.i c.if-x-i.false c.if-i-ge4.false))
 
-pub explicit-next-spec : {M : Type 1} → statement M
-explicit-next-spec = tie.close (tie.spec returns returns-2 explicit-item-requires add-t5 returns-3)
+pub explicit_next_spec : {M : Type 1} → statement M
+explicit_next_spec = tie.close (tie.spec returns returns_2 explicit_item_requires add_t5 returns_3)

@@ -5,22 +5,22 @@ use borrow.Author.Rules.{rules}
 use Rattle.listing.proofs.cursor.flags_next.Statement.{statement}
 use Rattle.listing.proofs.cursor.flags_next.Tie as tie
 
-flags-access-requires : tie.Need-flags-access-requires
-flags-access-requires c κs = search rules
+flags_access_requires : tie.Need-flags_access-access-requires
+flags_access_requires c κs = search rules
 
-to-bits-requires : tie.Need-to-bits-requires
-to-bits-requires c κs = search rules
+to_bits_requires : tie.Need-to_bits-requires
+to_bits_requires c κs = search rules
 
-implicit-next-requires : tie.Need-implicit-next-requires
-implicit-next-requires c κs = search rules
+implicit_next_requires : tie.Need-implicit_next-requires
+implicit_next_requires c κs = search rules
 
-returns : tie.Need-returns
-returns c = c.implicit-next.ensures ∙ sym (flags_none c.before.before.before.before.before.args.x (sym (flags_number c.before.before.before.before.before.args.x.digest c.before.before.before.flags-access.ensures) ∙ sym c.before.before.to-bits.ensures ∙ c.before.if1.true))
+returns : tie.Need-returns-then-to_bits-eq0
+returns c = c.implicit_next.ensures ∙ sym (flags_none c.args.x (sym (flags_number c.args.x.digest c.flags_access-access.ensures) ∙ sym c.to_bits.ensures ∙ c.if-to_bits-eq0.true))
 
-returns-2 : tie.Need-returns-2
-returns-2 c = sym (flags_found c.before.before.before.before.args.x (flags_number c.before.before.before.before.args.x.digest c.before.before.flags-access.ensures) (λ e. c.if1.false (c.before.to-bits.ensures ∙ e)))
+returns_2 : tie.Need-returns
+returns_2 c = sym (flags_found c.args.x (flags_number c.args.x.digest c.flags_access-access.ensures) (λ e. c.if-to_bits-eq0.false (c.to_bits.ensures ∙ e)))
 
-pub flags-next-spec : {M : Type 1} → statement M
-flags-next-spec =
+pub flags_next_spec : {M : Type 1} → statement M
+flags_next_spec =
     tie.close
-    (tie.spec flags-access-requires to-bits-requires implicit-next-requires returns returns-2)
+    (tie.spec flags_access_requires to_bits_requires implicit_next_requires returns returns_2)

@@ -6,59 +6,59 @@ use borrow.Author.Rules.{rules}
 use Rattle.listing.proofs.cursor.implicit_next.Statement.{statement}
 use Rattle.listing.proofs.cursor.implicit_next.Tie as tie
 
-implicit-entry-requires : tie.Need-implicit-entry-requires
-implicit-entry-requires c κs = search rules
+implicit_entry_requires : tie.Need-implicit_entry-entry-requires
+implicit_entry_requires c κs = search rules
 
-enum-known-entry : tie.Need-enum-known-entry
-enum-known-entry c = search rules
+enum_known_entry : tie.Need-enum_known-entry
+enum_known_entry c = search rules
 
-implicit-found-requires : tie.Need-implicit-found-requires
-implicit-found-requires c κs =
-    let s = c.before.before.before.before.before.args in
-    below_four s.x.digest.extra s.i (sym c.before.before.before.implicit-entry.ensures ∙ c.before.entry.given.1) refl
+implicit_found_requires : tie.Need-implicit_found-requires
+implicit_found_requires c κs =
+    let s = c.args in
+    below_four s.x.digest.extra s.i (sym c.implicit_entry-entry.ensures ∙ c.in-Operand.is) refl
 
-enum-known-entry-2 : tie.Need-enum-known-entry-2
-enum-known-entry-2 c = search rules
+enum_known_entry_2 : tie.Need-enum_known-entry-in-Slot-1
+enum_known_entry_2 c = search rules
 
-implicit-found-requires-2 : tie.Need-implicit-found-requires-2
-implicit-found-requires-2 c κs =
-    let s = c.before.before.before.before.before.args in
-    below_four s.x.digest.extra s.i (sym c.before.before.before.implicit-entry.ensures ∙ c.before.entry2.given.1) refl
+implicit_found_requires_2 : tie.Need-implicit_found-requires-in-Slot
+implicit_found_requires_2 c κs =
+    let s = c.args in
+    below_four s.x.digest.extra s.i (sym c.implicit_entry-entry.ensures ∙ c.in-Slot.is) refl
 
-enum_told : tie.Need-enum-told
+enum_told : tie.Need-enum_told-1
 enum_told c = search rules
 
-explicit-next-requires : tie.Need-explicit-next-requires
-explicit-next-requires c κs = search rules
+explicit_next_requires : tie.Need-explicit_next-requires
+explicit_next_requires c κs = search rules
 
-returns : tie.Need-returns
+returns : tie.Need-returns-in-Operand
 unfolding entry_items
 returns c =
-    let s = c.before.before.before.before.before.before.args in
-    c.implicit-found.ensures ∙ sym (entry_found s.x s.i (sym c.before.before.before.before.implicit-entry.ensures ∙ c.before.before.entry.given.1) refl)
+    let s = c.args in
+    c.implicit_found.ensures ∙ sym (entry_found s.x s.i (sym c.implicit_entry-entry.ensures ∙ c.in-Operand.is) refl)
 
-returns-2 : tie.Need-returns-2
+returns_2 : tie.Need-returns-in-Slot
 unfolding entry_items
-returns-2 c =
-    let s = c.before.before.before.before.before.before.args in
-    c.implicit-found2.ensures ∙ sym (entry_found s.x s.i (sym c.before.before.before.before.implicit-entry.ensures ∙ c.before.before.entry2.given.1) refl)
+returns_2 c =
+    let s = c.args in
+    c.implicit_found-in-Slot.ensures ∙ sym (entry_found s.x s.i (sym c.implicit_entry-entry.ensures ∙ c.in-Slot.is) refl)
 
-returns-3 : tie.Need-returns-3
-returns-3 c =
-    let s = c.before.before.before.before.before.args in
-    c.explicit-next.ensures ∙ sym (entry_over s.x s.i (sym c.before.before.before.implicit-entry.ensures ∙ c.before.enum_told.given.1))
+returns_3 : tie.Need-returns-in-End
+returns_3 c =
+    let s = c.args in
+    c.explicit_next.ensures ∙ sym (entry_over s.x s.i (sym c.implicit_entry-entry.ensures ∙ c.in-End.is))
 
-pub implicit-next-spec : {M : Type 1} → statement M
-implicit-next-spec =
+pub implicit_next_spec : {M : Type 1} → statement M
+implicit_next_spec =
     tie.close
     (tie.spec
-    implicit-entry-requires
-    enum-known-entry
-    implicit-found-requires
-    enum-known-entry-2
-    implicit-found-requires-2
+    implicit_entry_requires
+    enum_known_entry
+    implicit_found_requires
+    enum_known_entry_2
+    implicit_found_requires_2
     enum_told
-    explicit-next-requires
+    explicit_next_requires
     returns
-    returns-2
-    returns-3)
+    returns_2
+    returns_3)

@@ -9,36 +9,36 @@ use borrow.Author.Rules.{rules}
 use Rattle.listing.proofs.items.put_explicit.Statement.{statement}
 use Rattle.listing.proofs.items.put_explicit.Tie as tie
 
-slice-write-out : tie.Need-slice-write-out
-slice-write-out c = search rules
+slice_write_out : tie.Need-bounds-out-0
+slice_write_out c = search rules
 
-slice-write-out-2 : tie.Need-slice-write-out-2
-slice-write-out-2 c = simp length-set (omega arith)
+slice_write_out_2 : tie.Need-bounds-out-1
+slice_write_out_2 c = simp length-set (omega arith)
 
-slice-write-out-3 : tie.Need-slice-write-out-3
-slice-write-out-3 c = simp length-set (omega arith)
+slice_write_out_3 : tie.Need-bounds-out-2
+slice_write_out_3 c = simp length-set (omega arith)
 
-to-bits-requires : tie.Need-to-bits-requires
-to-bits-requires c κs = search rules
+to_bits_requires : tie.Need-to_bits-requires
+to_bits_requires c κs = search rules
 
-slice-write-out-4 : tie.Need-slice-write-out-4
-slice-write-out-4 c = search rules
+slice_write_out_4 : tie.Need-bounds-out-3
+slice_write_out_4 c = search rules
 
-same_length : tie.Need-same-length
+same_length : tie.Need-shape_of-out
 same_length c = search rules
 
 returns : tie.Need-returns
 unfolding item_bytes
-returns c = rw c.to-bits.ensures (refl, sets-eq (0x46 ∷ c.before.before.args.i ∷ c.before.before.args.s ∷ access_number c.before.before.args.a ∷ []) c.before.before.args.out.now 0 c.before.before.requires)
+returns c = rw c.to_bits.ensures (refl, sets-eq (0x46 ∷ c.args.i ∷ c.args.s ∷ access_number c.args.a ∷ []) c.args.out.now 0 c.requires)
 
-pub put-explicit-spec : {M : Type 1} → statement M
-put-explicit-spec =
+pub put_explicit_spec : {M : Type 1} → statement M
+put_explicit_spec =
     tie.close
     (tie.spec
-    slice-write-out
-    slice-write-out-2
-    slice-write-out-3
-    to-bits-requires
-    slice-write-out-4
+    slice_write_out
+    slice_write_out_2
+    slice_write_out_3
+    to_bits_requires
+    slice_write_out_4
     same_length
     returns)

@@ -7,22 +7,22 @@ use borrow.Author.Rules.{rules}
 use Rattle.listing.proofs.items.put_flags.Statement.{statement}
 use Rattle.listing.proofs.items.put_flags.Tie as tie
 
-slice-write-out : tie.Need-slice-write-out
-slice-write-out c = search rules
+slice_write_out : tie.Need-bounds-out-0
+slice_write_out c = search rules
 
-to-bits-requires : tie.Need-to-bits-requires
-to-bits-requires c κs = search rules
+to_bits_requires : tie.Need-to_bits-requires
+to_bits_requires c κs = search rules
 
-slice-write-out-2 : tie.Need-slice-write-out-2
-slice-write-out-2 c = search rules
+slice_write_out_2 : tie.Need-bounds-out-1
+slice_write_out_2 c = search rules
 
-same_length : tie.Need-same-length
+same_length : tie.Need-shape_of-out
 same_length c = search rules
 
 returns : tie.Need-returns
 unfolding item_bytes
-returns c = rw c.to-bits.ensures (refl, sets-eq (0x41 ∷ access_number c.before.before.args.a ∷ []) c.before.before.args.out.now 0 c.before.before.requires)
+returns c = rw c.to_bits.ensures (refl, sets-eq (0x41 ∷ access_number c.args.a ∷ []) c.args.out.now 0 c.requires)
 
-pub put-flags-spec : {M : Type 1} → statement M
-put-flags-spec =
-    tie.close (tie.spec slice-write-out to-bits-requires slice-write-out-2 same_length returns)
+pub put_flags_spec : {M : Type 1} → statement M
+put_flags_spec =
+    tie.close (tie.spec slice_write_out to_bits_requires slice_write_out_2 same_length returns)

@@ -4,25 +4,25 @@ use borrow.Author.Rules.{rules}
 use Rattle.listing.proofs.items.put_implicit.Statement.{statement}
 use Rattle.listing.proofs.items.put_implicit.Tie as tie
 
-put-operand-requires : tie.Need-put-operand-requires
-put-operand-requires c κs = let s = c.before.before in omega (arith, operand_room s.args.o s.args.a s.requires)
+put_operand_requires : tie.Need-put_operand-n-requires
+put_operand_requires c κs = let s = c in omega (arith, operand_room s.args.o s.args.a s.requires)
 
-to-bits-requires : tie.Need-to-bits-requires
-to-bits-requires c κs = search rules
+to_bits_requires : tie.Need-to_bits-requires
+to_bits_requires c κs = search rules
 
-slice-write-out : tie.Need-slice-write-out
-slice-write-out c = let s = c.before.before.before.before.before.before in (access_room s.args.o s.args.a s.requires c.before.before.before.put-operand.ensures).0
+slice_write_out : tie.Need-bounds-out-n
+slice_write_out c = let s = c in (access_room s.args.o s.args.a s.requires c.put_operand-n.ensures).0
 
-add-result : tie.Need-overflow-add-result
-add-result c = let s = c.before.before.before.before.before.before in omega (arith, access_room s.args.o s.args.a s.requires c.before.before.before.put-operand.ensures, s.well-formed.0.0)
+add_result : tie.Need-overflow_add-result
+add_result c = let s = c in omega (arith, access_room s.args.o s.args.a s.requires c.put_operand-n.ensures, s.well_formed.0.0)
 
-same_length : tie.Need-same-length
+same_length : tie.Need-shape_of-out
 same_length c = search rules
 
 returns : tie.Need-returns
-returns c = let s = c.before.before.before.before.before.before in rw c.to-bits.ensures (access_behind s.args.o s.args.a s.requires c.before.before.before.put-operand.ensures)
+returns c = let s = c in rw c.to_bits.ensures (access_behind s.args.o s.args.a s.requires c.put_operand-n.ensures)
 
-pub put-implicit-spec : {M : Type 1} → statement M
-put-implicit-spec =
+pub put_implicit_spec : {M : Type 1} → statement M
+put_implicit_spec =
     tie.close
-    (tie.spec put-operand-requires to-bits-requires slice-write-out add-result same_length returns)
+    (tie.spec put_operand_requires to_bits_requires slice_write_out add_result same_length returns)

@@ -7,59 +7,59 @@ use borrow.Author.Rules.{rules}
 use Rattle.listing.proofs.items.put_item.Statement.{statement}
 use Rattle.listing.proofs.items.put_item.Tie as tie
 
-enum-known-item : tie.Need-enum-known-item
-enum-known-item c = search rules
+enum_known_item : tie.Need-enum_known-item
+enum_known_item c = search rules
 
-put-flags-requires : tie.Need-put-flags-requires
+put_flags_requires : tie.Need-put_flags-requires
 unfolding size each item_bytes
-put-flags-requires c κs = rw c.before.before.item.given.1 at c.before.before.before.before.before.requires
+put_flags_requires c κs = rw c.in-Flags.is at c.requires
 
-enum-known-item-2 : tie.Need-enum-known-item-2
-enum-known-item-2 c = search rules
+enum_known_item_2 : tie.Need-enum_known-item-in-Implicit-1
+enum_known_item_2 c = search rules
 
-put-implicit-requires : tie.Need-put-implicit-requires
-put-implicit-requires c κs = rw c.before.before.item2.given.1 at c.before.before.before.before.before.requires
+put_implicit_requires : tie.Need-put_implicit-requires
+put_implicit_requires c κs = rw c.in-Implicit.is at c.requires
 
-enum-known-item-3 : tie.Need-enum-known-item-3
-enum-known-item-3 c = search rules
+enum_known_item_3 : tie.Need-enum_known-item-in-Explicit-1
+enum_known_item_3 c = search rules
 
-put-explicit-requires : tie.Need-put-explicit-requires
+put_explicit_requires : tie.Need-put_explicit-requires
 unfolding size each item_bytes
-put-explicit-requires c κs = rw c.before.before.item3.given.1 at c.before.before.before.before.before.requires
+put_explicit_requires c κs = rw c.in-Explicit.is at c.requires
 
-same_length : tie.Need-same-length
+same_length : tie.Need-shape_of-out-in-Flags
 same_length c = search rules
 
-returns : tie.Need-returns
+returns : tie.Need-returns-in-Flags
 unfolding item_bytes
-returns c = rw c.before.before.before.before.before.item.given.1 (logged item_bytes (Flags _) c.before.before.put-flags.ensures)
+returns c = rw c.in-Flags.is (logged item_bytes (Flags _) c.put_flags.ensures)
 
-same-length-2 : tie.Need-same-length-2
-same-length-2 c = search rules
+same_length_2 : tie.Need-shape_of-out-in-Implicit
+same_length_2 c = search rules
 
-returns-2 : tie.Need-returns-2
-returns-2 c = rw c.before.before.before.before.before.item2.given.1 c.before.before.put-implicit.ensures
+returns_2 : tie.Need-returns-in-Implicit
+returns_2 c = rw c.in-Implicit.is c.put_implicit.ensures
 
-same-length-3 : tie.Need-same-length-3
-same-length-3 c = search rules
+same_length_3 : tie.Need-shape_of-out-in-Explicit
+same_length_3 c = search rules
 
-returns-3 : tie.Need-returns-3
+returns_3 : tie.Need-returns-in-Explicit
 unfolding item_bytes
-returns-3 c = rw c.before.before.before.before.before.item3.given.1 (logged item_bytes (Explicit _ _ _) c.before.before.put-explicit.ensures)
+returns_3 c = rw c.in-Explicit.is (logged item_bytes (Explicit _ _ _) c.put_explicit.ensures)
 
-pub put-item-spec : {M : Type 1} → statement M
-put-item-spec =
+pub put_item_spec : {M : Type 1} → statement M
+put_item_spec =
     tie.close
     (tie.spec
-    enum-known-item
-    put-flags-requires
-    enum-known-item-2
-    put-implicit-requires
-    enum-known-item-3
-    put-explicit-requires
+    enum_known_item
+    put_flags_requires
+    enum_known_item_2
+    put_implicit_requires
+    enum_known_item_3
+    put_explicit_requires
     same_length
     returns
-    same-length-2
-    returns-2
-    same-length-3
-    returns-3)
+    same_length_2
+    returns_2
+    same_length_3
+    returns_3)

@@ -8,79 +8,79 @@ use borrow.Author.Rules.{rules}
 use Rattle.listing.proofs.items.put_operand.Statement.{statement}
 use Rattle.listing.proofs.items.put_operand.Tie as tie
 
-enum-known-o : tie.Need-enum-known-o
-enum-known-o c = search rules
+enum_known_o : tie.Need-enum_known-o
+enum_known_o c = search rules
 
-put-register-requires : tie.Need-put-register-requires
+put_register_requires : tie.Need-put_register-requires
 unfolding size each operand_bytes little
-put-register-requires c κs = rw c.before.before.o.given.1 at c.before.before.before.before.before.requires
+put_register_requires c κs = rw c.in-Register.is at c.requires
 
-enum-known-o-2 : tie.Need-enum-known-o-2
-enum-known-o-2 c = search rules
+enum_known_o_2 : tie.Need-enum_known-o-in-MemDeref-1
+enum_known_o_2 c = search rules
 
-put-register-requires-2 : tie.Need-put-register-requires-2
+put_register_requires_2 : tie.Need-put_register-requires-in-MemDeref
 unfolding size each operand_bytes little
-put-register-requires-2 c κs = rw c.before.before.o2.given.1 at c.before.before.before.before.before.requires
+put_register_requires_2 c κs = rw c.in-MemDeref.is at c.requires
 
-enum-known-o-3 : tie.Need-enum-known-o-3
-enum-known-o-3 c = search rules
+enum_known_o_3 : tie.Need-enum_known-o-in-Disp-1
+enum_known_o_3 c = search rules
 
-put-disp-requires : tie.Need-put-disp-requires
+put_disp_requires : tie.Need-put_disp-requires
 unfolding size each operand_bytes little
-put-disp-requires c κs = rw c.before.before.o3.given.1 at c.before.before.before.before.before.requires
+put_disp_requires c κs = rw c.in-Disp.is at c.requires
 
-enum-known-o-4 : tie.Need-enum-known-o-4
-enum-known-o-4 c = search rules
+enum_known_o_4 : tie.Need-enum_known-o-in-MemBaseIndexScale-1
+enum_known_o_4 c = search rules
 
-put-base-index-requires : tie.Need-put-base-index-requires
+put_base_index_requires : tie.Need-put_base_index-requires
 unfolding size each operand_bytes little
-put-base-index-requires c κs = rw c.before.before.o4.given.1 at c.before.before.before.before.before.requires
+put_base_index_requires c κs = rw c.in-MemBaseIndexScale.is at c.requires
 
-same_length : tie.Need-same-length
+same_length : tie.Need-shape_of-out-in-Register
 same_length c = search rules
 
-returns : tie.Need-returns
+returns : tie.Need-returns-in-Register
 unfolding operand_bytes little
-returns c = rw c.before.before.before.before.before.o.given.1 (logged operand_bytes (Register _) c.before.before.put-register.ensures)
+returns c = rw c.in-Register.is (logged operand_bytes (Register _) c.put_register.ensures)
 
-same-length-2 : tie.Need-same-length-2
-same-length-2 c = search rules
+same_length_2 : tie.Need-shape_of-out-in-MemDeref
+same_length_2 c = search rules
 
-returns-2 : tie.Need-returns-2
+returns_2 : tie.Need-returns-in-MemDeref
 unfolding operand_bytes little
-returns-2 c = rw c.before.before.before.before.before.o2.given.1 (logged operand_bytes (MemDeref _) c.before.before.put-register2.ensures)
+returns_2 c = rw c.in-MemDeref.is (logged operand_bytes (MemDeref _) c.put_register-in-MemDeref.ensures)
 
-same-length-3 : tie.Need-same-length-3
-same-length-3 c = search rules
+same_length_3 : tie.Need-shape_of-out-in-Disp
+same_length_3 c = search rules
 
-returns-3 : tie.Need-returns-3
+returns_3 : tie.Need-returns-in-Disp
 unfolding operand_bytes little
-returns-3 c = rw c.before.before.before.before.before.o3.given.1 (logged operand_bytes (Disp _ _) c.before.before.put-disp.ensures)
+returns_3 c = rw c.in-Disp.is (logged operand_bytes (Disp _ _) c.put_disp.ensures)
 
-same-length-4 : tie.Need-same-length-4
-same-length-4 c = search rules
+same_length_4 : tie.Need-shape_of-out-in-MemBaseIndexScale
+same_length_4 c = search rules
 
-returns-4 : tie.Need-returns-4
+returns_4 : tie.Need-returns-in-MemBaseIndexScale
 unfolding operand_bytes little
-returns-4 c = rw c.before.before.before.before.before.o4.given.1 (logged operand_bytes (MemBaseIndexScale _ _ _) c.before.before.put-base-index.ensures)
+returns_4 c = rw c.in-MemBaseIndexScale.is (logged operand_bytes (MemBaseIndexScale _ _ _) c.put_base_index.ensures)
 
-pub put-operand-spec : {M : Type 1} → statement M
-put-operand-spec =
+pub put_operand_spec : {M : Type 1} → statement M
+put_operand_spec =
     tie.close
     (tie.spec
-    enum-known-o
-    put-register-requires
-    enum-known-o-2
-    put-register-requires-2
-    enum-known-o-3
-    put-disp-requires
-    enum-known-o-4
-    put-base-index-requires
+    enum_known_o
+    put_register_requires
+    enum_known_o_2
+    put_register_requires_2
+    enum_known_o_3
+    put_disp_requires
+    enum_known_o_4
+    put_base_index_requires
     same_length
     returns
-    same-length-2
-    returns-2
-    same-length-3
-    returns-3
-    same-length-4
-    returns-4)
+    same_length_2
+    returns_2
+    same_length_3
+    returns_3
+    same_length_4
+    returns_4)

@@ -7,55 +7,55 @@ use native.Mathlib.Omega.{arith}
 use Rattle.refusals.proofs.operands.accesses_unnamed.Statement.{statement}
 use Rattle.refusals.proofs.operands.accesses_unnamed.Tie as tie
 
-abbrev invariant-loop : tie.invariant-loop
+abbrev invariant-loop : tie.invariant-loop-i
 invariant-loop x count i₀ i = Left (unnamed x) x i
 
-abbrev decreases-loop : tie.decreases-loop
+abbrev decreases-loop : tie.decreases-loop-i
 decreases-loop x count i₀ i = 4 - i
 
-loop-holds : tie.Need-loop-init invariant-loop decreases-loop
-loop-holds c = all_left (unnamed c.args.x) c.args.x
+loop_holds : tie.Need-loop-i-init invariant-loop decreases-loop
+loop_holds c = all_left (unnamed c.args.x) c.args.x
 
-returns : tie.Need-returns invariant-loop decreases-loop
+returns : tie.Need-returns-then-count-i invariant-loop decreases-loop
 returns c =
-    let x = c.before.before.before.args.x in
-    none_left (unnamed x) x c.before.before.loop.invariant (omega (arith, operands_length x))
+    let x = c.args.x in
+    none_left (unnamed x) x c.loop-i.invariant (omega (arith, operands_length x))
 
-is-unnamed-at-requires : tie.Need-is-unnamed-at-requires invariant-loop decreases-loop
-is-unnamed-at-requires c κs = tt
+is_unnamed_at_requires : tie.Need-is_unnamed_at-requires invariant-loop decreases-loop
+is_unnamed_at_requires c κs = tt
 
-returns-2 : tie.Need-returns-2 invariant-loop decreases-loop
-returns-2 c =
-    let x = c.before.before.before.before.before.args.x in
-    hit (unnamed x) x c.before.before.before.before.loop.invariant (omega (arith, operands_length x)) (sym c.before.is-unnamed-at.ensures ∙ c.if2.true)
+returns_2 : tie.Need-returns-then-is_unnamed_at invariant-loop decreases-loop
+returns_2 c =
+    let x = c.args.x in
+    hit (unnamed x) x c.loop-i.invariant (omega (arith, operands_length x)) (sym c.is_unnamed_at.ensures ∙ c.if-is_unnamed_at.true)
 
-add-i : tie.Need-overflow-add-i invariant-loop decreases-loop
-add-i c = omega arith
+add_i : tie.Need-overflow_add-i invariant-loop decreases-loop
+add_i c = omega arith
 
-loop-less : tie.Need-loop-smaller invariant-loop decreases-loop
-loop-less c = omega arith
+loop_less : tie.Need-loop-i-smaller invariant-loop decreases-loop
+loop_less c = omega arith
 
-loop-again : tie.Need-loop-preserved invariant-loop decreases-loop
-loop-again c =
-    let x = c.before.before.before.before.before.args.x in
-    miss (unnamed x) x c.before.before.before.before.loop.invariant (omega (arith, operands_length x)) (sym c.before.is-unnamed-at.ensures ∙ c.if2.false)
+loop_again : tie.Need-loop-i-preserved invariant-loop decreases-loop
+loop_again c =
+    let x = c.args.x in
+    miss (unnamed x) x c.loop-i.invariant (omega (arith, operands_length x)) (sym c.is_unnamed_at.ensures ∙ c.if-is_unnamed_at.false)
 
-returns-3 : tie.Need-returns-3 invariant-loop decreases-loop
-returns-3 c =
-    let x = c.before.before.args.x in
-    none_left (unnamed x) x c.before.loop.invariant (omega (arith, operands_length x))
+returns_3 : tie.Need-returns invariant-loop decreases-loop
+returns_3 c =
+    let x = c.args.x in
+    none_left (unnamed x) x c.loop-i.invariant (omega (arith, operands_length x))
 
-pub accesses-unnamed-spec : {M : Type 1} → statement M
-accesses-unnamed-spec =
+pub accesses_unnamed_spec : {M : Type 1} → statement M
+accesses_unnamed_spec =
     tie.close
     (tie.spec
     invariant-loop
     decreases-loop
-    loop-holds
+    loop_holds
     returns
-    is-unnamed-at-requires
-    returns-2
-    add-i
-    loop-less
-    loop-again
-    returns-3)
+    is_unnamed_at_requires
+    returns_2
+    add_i
+    loop_less
+    loop_again
+    returns_3)

@@ -3,21 +3,21 @@ use borrow.Author.Rules.{rules}
 use Rattle.refusals.proofs.operands.is_memory_at.Statement.{statement}
 use Rattle.refusals.proofs.operands.is_memory_at.Tie as tie
 
-is-accessed-requires : tie.Need-is-accessed-requires
-is-accessed-requires c κs = search rules
+is_accessed_requires : tie.Need-is_accessed-requires
+is_accessed_requires c κs = search rules
 
-spec-requires : tie.Need-spec-requires
-spec-requires c κs = search rules
+spec_requires : tie.Need-spec-requires
+spec_requires c κs = search rules
 
-is-memory-requires : tie.Need-is-memory-requires
-is-memory-requires c κs = search rules
+is_memory_requires : tie.Need-is_memory-requires
+is_memory_requires c κs = search rules
 
-returns : tie.Need-returns
-returns c = rw (sym c.before.before.before.is-accessed.ensures ∙ c.before.before.if1.true, ← c.before.spec.ensures) c.is-memory.ensures
+returns : tie.Need-returns-then-is_accessed
+returns c = rw (sym c.is_accessed.ensures ∙ c.if-is_accessed.true, ← c.spec.ensures) c.is_memory.ensures
 
-returns-2 : tie.Need-returns-2
-returns-2 c = rw (sym c.before.is-accessed.ensures ∙ c.if1.false) c.if1.false
+returns_2 : tie.Need-returns-else-is_accessed
+returns_2 c = rw (sym c.is_accessed.ensures ∙ c.if-is_accessed.false) c.if-is_accessed.false
 
-pub is-memory-at-spec : {M : Type 1} → statement M
-is-memory-at-spec =
-    tie.close (tie.spec is-accessed-requires spec-requires is-memory-requires returns returns-2)
+pub is_memory_at_spec : {M : Type 1} → statement M
+is_memory_at_spec =
+    tie.close (tie.spec is_accessed_requires spec_requires is_memory_requires returns returns_2)

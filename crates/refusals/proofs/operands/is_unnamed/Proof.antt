@@ -6,44 +6,44 @@ use borrow.Author.Rules.{rules}
 use Rattle.refusals.proofs.operands.is_unnamed.Statement.{statement}
 use Rattle.refusals.proofs.operands.is_unnamed.Tie as tie
 
-element-copy-out-is-register : tie.Need-element-copy-out-is-register
-element-copy-out-is-register c = search rules
+element_copy_out_is_register : tie.Need-bounds-x-3
+element_copy_out_is_register c = search rules
 
-cast-is-register : tie.Need-overflow-cast-is-register
-cast-is-register c = search rules
+cast_is_register : tie.Need-overflow_cast-x
+cast_is_register c = search rules
 
-is-register-requires : tie.Need-is-register-requires
-is-register-requires c κs = search rules
+is_register_requires : tie.Need-is_register-requires
+is_register_requires c κs = search rules
 
-returns : tie.Need-returns
+returns : tie.Need-returns-in-4
 unfolding unnamed
 returns c =
-    let a = c.before.before.args in
-    rw (unnamed_is a.t1 a.spec, c.before.match.keys1, c.is-register.ensures)
+    let a = c.args in
+    rw (unnamed_is a.x a.spec, c.in-4.is, c.is_register.ensures)
 
-returns-2 : tie.Need-returns-2
-returns-2 c =
-    let a = c.before.before.before.args in
-    rw (unnamed_is a.t1 a.spec, ne_eqb a.spec 0 (omega arith), le-ltb 35 a.spec (omega arith), ne_eqb a.spec 4 c.before.before.match.rest.1)
+returns_2 : tie.Need-returns-in-1-to-35
+returns_2 c =
+    let a = c.args in
+    rw (unnamed_is a.x a.spec, ne_eqb a.spec 0 (omega arith), le-ltb 35 a.spec (omega arith), ne_eqb a.spec 4 c.in-1-to-35.in_default-own.rest.1)
 
-returns-3 : tie.Need-returns-3
-returns-3 c =
-    let a = c.before.before.args in
-    rw (unnamed_is a.t1 a.spec, eq-eqb a.spec 0 (omega arith))
+returns_3 : tie.Need-returns-in_default
+returns_3 c =
+    let a = c.args in
+    rw (unnamed_is a.x a.spec, eq-eqb a.spec 0 (omega arith))
 
-returns-4 : tie.Need-returns-4
-returns-4 c =
-    let a = c.before.before.before.args in
-    rw (unnamed_is a.t1 a.spec, ne_eqb a.spec 0 (omega arith), lt-ltb 35 a.spec (omega arith))
+returns_4 : tie.Need-returns-in_default-2
+returns_4 c =
+    let a = c.args in
+    rw (unnamed_is a.x a.spec, ne_eqb a.spec 0 (omega arith), lt-ltb 35 a.spec (omega arith))
 
-pub is-unnamed-spec : {M : Type 1} → statement M
-is-unnamed-spec =
+pub is_unnamed_spec : {M : Type 1} → statement M
+is_unnamed_spec =
     tie.close
     (tie.spec
-    element-copy-out-is-register
-    cast-is-register
-    is-register-requires
+    element_copy_out_is_register
+    cast_is_register
+    is_register_requires
     returns
-    returns-2
-    returns-3
-    returns-4)
+    returns_2
+    returns_3
+    returns_4)

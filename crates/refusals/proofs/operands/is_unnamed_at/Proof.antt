@@ -3,21 +3,21 @@ use borrow.Author.Rules.{rules}
 use Rattle.refusals.proofs.operands.is_unnamed_at.Statement.{statement}
 use Rattle.refusals.proofs.operands.is_unnamed_at.Tie as tie
 
-is-accessed-requires : tie.Need-is-accessed-requires
-is-accessed-requires c κs = search rules
+is_accessed_requires : tie.Need-is_accessed-requires
+is_accessed_requires c κs = search rules
 
-spec-requires : tie.Need-spec-requires
-spec-requires c κs = search rules
+spec_requires : tie.Need-spec-requires
+spec_requires c κs = search rules
 
-is-unnamed-requires : tie.Need-is-unnamed-requires
-is-unnamed-requires c κs = search rules
+is_unnamed_requires : tie.Need-is_unnamed-requires
+is_unnamed_requires c κs = search rules
 
-returns : tie.Need-returns
-returns c = rw (sym c.before.before.before.is-accessed.ensures ∙ c.before.before.if1.true, ← c.before.spec.ensures) c.is-unnamed.ensures
+returns : tie.Need-returns-then-is_accessed
+returns c = rw (sym c.is_accessed.ensures ∙ c.if-is_accessed.true, ← c.spec.ensures) c.is_unnamed.ensures
 
-returns-2 : tie.Need-returns-2
-returns-2 c = rw (sym c.before.is-accessed.ensures ∙ c.if1.false) c.if1.false
+returns_2 : tie.Need-returns-else-is_accessed
+returns_2 c = rw (sym c.is_accessed.ensures ∙ c.if-is_accessed.false) c.if-is_accessed.false
 
-pub is-unnamed-at-spec : {M : Type 1} → statement M
-is-unnamed-at-spec =
-    tie.close (tie.spec is-accessed-requires spec-requires is-unnamed-requires returns returns-2)
+pub is_unnamed_at_spec : {M : Type 1} → statement M
+is_unnamed_at_spec =
+    tie.close (tie.spec is_accessed_requires spec_requires is_unnamed_requires returns returns_2)

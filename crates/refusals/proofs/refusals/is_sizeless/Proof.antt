@@ -4,20 +4,20 @@ use borrow.Author.Rules.{rules}
 use Rattle.refusals.proofs.refusals.is_sizeless.Statement.{statement}
 use Rattle.refusals.proofs.refusals.is_sizeless.Tie as tie
 
-returns : tie.Need-returns
+returns : tie.Need-returns-then-x-ne0
 unfolding sizeless
-returns c = rw (ne_eqb _ _ c.if1.true)
+returns c = rw (ne_eqb _ _ c.if-x-ne0.true)
 
-accesses-memory-requires : tie.Need-accesses-memory-requires
-accesses-memory-requires c κs = search rules
+accesses_memory_requires : tie.Need-accesses_memory-requires
+accesses_memory_requires c κs = search rules
 
-needs-size-requires : tie.Need-needs-size-requires
-needs-size-requires c κs = search rules
+needs_size_requires : tie.Need-needs_size-requires
+needs_size_requires c κs = search rules
 
-returns-2 : tie.Need-returns-2
+returns_2 : tie.Need-returns
 unfolding sizeless
-returns-2 c = rw (eq-eqb _ _ c.before.before.if1.false, c.before.accesses-memory.ensures, c.needs-size.ensures)
+returns_2 c = rw (eq-eqb _ _ c.if-x-ne0.false, c.accesses_memory.ensures, c.needs_size.ensures)
 
-pub is-sizeless-spec : {M : Type 1} → statement M
-is-sizeless-spec =
-    tie.close (tie.spec returns accesses-memory-requires needs-size-requires returns-2)
+pub is_sizeless_spec : {M : Type 1} → statement M
+is_sizeless_spec =
+    tie.close (tie.spec returns accesses_memory_requires needs_size_requires returns_2)

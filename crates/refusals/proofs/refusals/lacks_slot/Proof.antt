@@ -7,34 +7,34 @@ use borrow.Author.Rules.{rules}
 use Rattle.refusals.proofs.refusals.lacks_slot.Statement.{statement}
 use Rattle.refusals.proofs.refusals.lacks_slot.Tie as tie
 
-is-string-requires : tie.Need-is-string-requires
-is-string-requires c κs = search rules
+is_string_requires : tie.Need-is_string-requires
+is_string_requires c κs = search rules
 
-is-string-requires-2 : tie.Need-is-string-requires-2
-is-string-requires-2 c κs = search rules
+is_string_requires_2 : tie.Need-is_string-requires-in-25
+is_string_requires_2 c κs = search rules
 
-is-string-requires-3 : tie.Need-is-string-requires-3
-is-string-requires-3 c κs = search rules
+is_string_requires_3 : tie.Need-is_string-requires-in-25-2
+is_string_requires_3 c κs = search rules
 
-returns : tie.Need-returns
+returns : tie.Need-returns-in-24
 unfolding any is_in
-returns c = rw (c.before.match.keys1, c.is-string.ensures) (sym (or-false (not (is_in c.before.before.args.first string_specs))))
+returns c = rw (c.in-24.is, c.is_string.ensures) (sym (or-false (not (is_in c.args.first string_specs))))
 
-returns-2 : tie.Need-returns-2
+returns_2 : tie.Need-returns-in-25
 unfolding any is_in
-returns-2 c = rw (c.before.before.match.keys2, c.before.is-string2.ensures, c.is-string3.ensures)
+returns_2 c = rw (c.in-25.is, c.is_string-in-25.ensures, c.is_string-in-25-2.ensures)
 
-returns-3 : tie.Need-returns-3
+returns_3 : tie.Need-returns-in_default
 unfolding any is_in
-returns-3 c = rw (ne_eqb c.before.args.list 24 c.match.rest.0.1, ne_eqb c.before.args.list 25 c.match.rest.1)
+returns_3 c = rw (ne_eqb c.args.list 24 c.in_default.in_default-own.rest.0.1, ne_eqb c.args.list 25 c.in_default.in_default-own.rest.1)
 
-pub lacks-slot-spec : {M : Type 1} → statement M
-lacks-slot-spec =
+pub lacks_slot_spec : {M : Type 1} → statement M
+lacks_slot_spec =
     tie.close
     (tie.spec
-    is-string-requires
-    is-string-requires-2
-    is-string-requires-3
+    is_string_requires
+    is_string_requires_2
+    is_string_requires_3
     returns
-    returns-2
-    returns-3)
+    returns_2
+    returns_3)

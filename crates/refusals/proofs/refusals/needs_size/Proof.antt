@@ -7,5 +7,5 @@ returns : tie.Need-returns
 unfolding any is_in
 returns c = simp (or_assoc, or-false)
 
-pub needs-size-spec : {M : Type 1} → statement M
-needs-size-spec = tie.close (tie.spec returns)
+pub needs_size_spec : {M : Type 1} → statement M
+needs_size_spec = tie.close (tie.spec returns)

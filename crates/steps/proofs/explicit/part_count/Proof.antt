@@ -5,16 +5,16 @@ use borrow.Author.Rules.{rules}
 use Rattle.steps.proofs.explicit.part_count.Statement.{statement}
 use Rattle.steps.proofs.explicit.part_count.Tie as tie
 
-mul-result : tie.Need-overflow-mul-result
-mul-result c = search rules
+mul_result : tie.Need-overflow_mul-result
+mul_result c = search rules
 
-returns : tie.Need-returns
+returns : tie.Need-returns-then-x-gt4
 unfolding part_count
-returns c = (rw (lt-ltb _ _ c.if1.true), omega arith)
+returns c = (rw (lt-ltb _ _ c.if-x-gt4.true), omega arith)
 
-returns-2 : tie.Need-returns-2
+returns_2 : tie.Need-returns-else-x-gt4
 unfolding part_count
-returns-2 c = (rw (le-ltb _ _ c.before.if1.false), omega arith)
+returns_2 c = (rw (le-ltb _ _ c.if-x-gt4.false), omega arith)
 
-pub part-count-spec : {M : Type 1} → statement M
-part-count-spec = tie.close (tie.spec mul-result returns returns-2)
+pub part_count_spec : {M : Type 1} → statement M
+part_count_spec = tie.close (tie.spec mul_result returns returns_2)

@@ -4,26 +4,26 @@ use Rattle.steps.proofs.Bits.{shifted, bits_below, some_shift}
 use Rattle.steps.proofs.explicit.parts_of.Statement.{statement}
 use Rattle.steps.proofs.explicit.parts_of.Tie as tie
 
-part-count-requires : tie.Need-part-count-requires
-part-count-requires c κs = search rules
+part_count_requires : tie.Need-part_count-count-requires
+part_count_requires c κs = search rules
 
-cast-result : tie.Need-overflow-cast-result
-cast-result c = search rules
+cast_result : tie.Need-overflow_cast-result
+cast_result c = search rules
 
-cast-result-2 : tie.Need-overflow-cast-result-2
-cast-result-2 c = search rules
+cast_result_2 : tie.Need-overflow_cast-result-2
+cast_result_2 c = search rules
 
-shl-result : tie.Need-overflow-shl-result
-shl-result c = search rules
+shl_result : tie.Need-overflow_shl-result
+shl_result c = search rules
 
-rem-result : tie.Need-nonzero-rem-result
-rem-result c = rw (shifted c.before.part_count.result c.before.part_count.ensures.1) (some_shift c.before.part_count.result)
+rem_result : tie.Need-nonzero_rem-result
+rem_result c = rw (shifted c.part_count-count.result c.part_count-count.ensures.1) (some_shift c.part_count-count.result)
 
 returns : tie.Need-returns
 unfolding part_bits
-returns c = (rw (shifted c.before.part_count.result c.before.part_count.ensures.1, c.before.part_count.ensures.0), rw (shifted c.before.part_count.result c.before.part_count.ensures.1) (bits_below c.before.before.args.x.digest.operands c.before.part_count.result c.before.part_count.ensures.1))
+returns c = (rw (shifted c.part_count-count.result c.part_count-count.ensures.1, c.part_count-count.ensures.0), rw (shifted c.part_count-count.result c.part_count-count.ensures.1) (bits_below c.args.x.digest.operands c.part_count-count.result c.part_count-count.ensures.1))
 
-pub parts-of-spec : {M : Type 1} → statement M
-parts-of-spec =
+pub parts_of_spec : {M : Type 1} → statement M
+parts_of_spec =
     tie.close
-    (tie.spec part-count-requires cast-result cast-result-2 shl-result rem-result returns)
+    (tie.spec part_count_requires cast_result cast_result_2 shl_result rem_result returns)

@@ -30,65 +30,65 @@ unfolding based_events
 room s = s.requires.1
 
 -- the base is logged
-based : (c : tie.After-put-segment) → let s = c.before.before.before.before.before.before in Logged event_bytes (seg0 s) s.args.log.now c.put-segment.new.0 c.put-segment.result
-based c = rw c.before.before.before.segment-of.ensures at c.put-segment.ensures
+based : (c : tie.After-put_segment-n) → let s = c.before.before.before.before.before.before in Logged event_bytes (seg0 s) s.args.log.now c.put_segment-n.new.log c.put_segment-n.result
+based c = rw c.segment_of-segment.ensures at c.put_segment-n.ensures
 
-one : (c : tie.After-put-segment) → let s = c.before.before.before.before.before.before in
-    Going event_bytes (every s) (seg1 s ∷ []) s.args.log.now c.put-segment.new.0 c.put-segment.result
-one c = let s = c.before.before.before.before.before.before in first {seg = seg0 s} (seg1 s ∷ []) (based c) (room s) s.well-formed.0.0
+one : (c : tie.After-put_segment-n) → let s = c.before.before.before.before.before.before in
+    Going event_bytes (every s) (seg1 s ∷ []) s.args.log.now c.put_segment-n.new.log c.put_segment-n.result
+one c = let s = c.before.before.before.before.before.before in first {seg = seg0 s} (seg1 s ∷ []) (based c) (room s) s.well_formed.0.0
 
 -- the part is logged
-parted : (c : tie.After-put-part) → let s = c.before.before.before.before.before.before.before.before.before.before in
-    Logged event_bytes (seg1 s) (part c.before.before.before.before.put-segment.new.0 c.before.before.before.before.put-segment.result) c.put-part.new.0 c.put-part.result
-parted c = rw (c.before.before.before.before.before.before.added-by.ensures, c.before.before.before.before.before.before.before.segment-of.ensures) at c.put-part.ensures
+parted : (c : tie.After-put_part) → let s = c.before.before.before.before.before.before.before.before.before.before in
+    Logged event_bytes (seg1 s) (part c.put_segment-n.new.log c.put_segment-n.result) c.put_part.new.log c.put_part.result
+parted c = rw (c.added_by-added.ensures, c.segment_of-segment.ensures) at c.put_part.ensures
 
-two : (c : tie.After-put-part) → let s = c.before.before.before.before.before.before.before.before.before.before in
-    Going event_bytes (every s) ([]) s.args.log.now (back c.before.before.before.before.put-segment.new.0 c.before.before.before.before.put-segment.result c.put-part.new.0) (c.before.before.before.before.put-segment.result + c.put-part.result)
+two : (c : tie.After-put_part) → let s = c.before.before.before.before.before.before.before.before.before.before in
+    Going event_bytes (every s) ([]) s.args.log.now (back c.put_segment-n.new.log c.put_segment-n.result c.put_part.new.log) (c.put_segment-n.result + c.put_part.result)
 two c = next (one c.before.before.before.before) (parted c)
 
-segment-of-requires : tie.Need-segment-of-requires
-segment-of-requires c κs = search rules
+segment_of_requires : tie.Need-segment_of-segment-requires
+segment_of_requires c κs = search rules
 
-added-by-requires : tie.Need-added-by-requires
-added-by-requires c κs = search rules
+added_by_requires : tie.Need-added_by-added-requires
+added_by_requires c κs = search rules
 
-put-segment-requires : tie.Need-put-segment-requires
-put-segment-requires c κs = let s = c.before.before.before.before.before in rw c.before.before.segment-of.ensures (fits_first event_bytes (seg0 s) (seg1 s ∷ []) (room s))
+put_segment_requires : tie.Need-put_segment-n-requires
+put_segment_requires c κs = let s = c.before.before.before.before.before in rw c.segment_of-segment.ensures (fits_first event_bytes (seg0 s) (seg1 s ∷ []) (room s))
 
-sub-put-part : tie.Need-overflow-sub-put-part
-sub-put-part c = inside (one c.before.before)
+sub_put_part : tie.Need-slice_bounds-put_part-count
+sub_put_part c = inside (one c.before.before)
 
-part-put-part-start : tie.Need-slice-bounds-put-part-start
-part-put-part-start c = inside (one c.before.before)
+part_put_part_start : tie.Need-slice_bounds-put_part-start
+part_put_part_start c = inside (one c.before.before)
 
-part-put-part-end : tie.Need-slice-bounds-put-part-end
-part-put-part-end c = search rules
+part_put_part_end : tie.Need-slice_bounds-put_part-end
+part_put_part_end c = search rules
 
-put-part-requires : tie.Need-put-part-requires
-put-part-requires c κs =
-    (c.before.before.before.before.before.before.before.before.before.requires.0, rw (c.before.before.before.before.before.added-by.ensures, c.before.before.before.before.before.before.segment-of.ensures) (fits (one c.before.before.before)))
+put_part_requires : tie.Need-put_part-requires
+put_part_requires c κs =
+    (c.requires.0, rw (c.added_by-added.ensures, c.segment_of-segment.ensures) (fits (one c.before.before.before)))
 
-add-result : tie.Need-overflow-add-result
-add-result c = ends (one c.before.before.before.before.before.before) (parted c.before.before)
+add_result : tie.Need-overflow_add-result
+add_result c = ends (one c.before.before.before.before.before.before) (parted c.before.before)
 
-same_length : tie.Need-same-length
+same_length : tie.Need-shape_of-log
 same_length c = keeps (two c.before.before)
 
 returns : tie.Need-returns
 unfolding based_events
 returns c = whole (two c.before.before)
 
-pub put-based-spec : {M : Type 1} → statement M
-put-based-spec =
+pub put_based_spec : {M : Type 1} → statement M
+put_based_spec =
     tie.close
     (tie.spec
-    segment-of-requires
-    added-by-requires
-    put-segment-requires
-    sub-put-part
-    part-put-part-start
-    part-put-part-end
-    put-part-requires
-    add-result
+    segment_of_requires
+    added_by_requires
+    put_segment_requires
+    sub_put_part
+    part_put_part_start
+    part_put_part_end
+    put_part_requires
+    add_result
     same_length
     returns)

@@ -11,600 +11,600 @@ use Rattle.steps.specs.Parts.{parts, part_events}
 use Rattle.steps.proofs.explicit.put_part.Statement.{statement}
 use Rattle.steps.proofs.explicit.put_part.Tie as tie
 
-reg-in-requires : tie.Need-reg-in-requires
-reg-in-requires c κs = (c.before.before.requires.0, lit≤ tt)
+reg_in_requires : tie.Need-reg_in-base-requires
+reg_in_requires c κs = (c.requires.0, lit≤ tt)
 
-reg-in-requires-2 : tie.Need-reg-in-requires-2
-reg-in-requires-2 c κs = (c.before.before.before.requires.0, lit≤ tt)
+reg_in_requires_2 : tie.Need-reg_in-index-requires
+reg_in_requires_2 c κs = (c.requires.0, lit≤ tt)
 
-reg-in-requires-3 : tie.Need-reg-in-requires-3
-reg-in-requires-3 c κs = (c.before.before.before.before.before.before.requires.0, lit≤ tt)
+reg_in_requires_3 : tie.Need-reg_in-requires
+reg_in_requires_3 c κs = (c.requires.0, lit≤ tt)
 
-put-plain-requires : tie.Need-put-plain-requires
+put_plain_requires : tie.Need-put_plain-requires
 unfolding part_events
-put-plain-requires c κs = rw c.reg-in3.ensures (rw c.before.before.match.keys1 at c.before.before.before.before.before.before.before.requires.1)
+put_plain_requires c κs = rw c.reg_in.ensures (rw c.in-1.is at c.requires.1)
 
-put-plain-requires-2 : tie.Need-put-plain-requires-2
+put_plain_requires_2 : tie.Need-put_plain-requires-in-2
 unfolding part_events
-put-plain-requires-2 c κs = rw c.before.before.before.Reg-in.ensures (rw c.before.match.keys2 at c.before.before.before.before.before.before.requires.1)
+put_plain_requires_2 c κs = rw c.reg_in-base.ensures (rw c.in-2.is at c.requires.1)
 
-reg-in-requires-4 : tie.Need-reg-in-requires-4
-reg-in-requires-4 c κs = (c.before.before.before.before.before.before.requires.0, lit≤ tt)
+reg_in_requires_4 : tie.Need-reg_in-requires-in-3
+reg_in_requires_4 c κs = (c.requires.0, lit≤ tt)
 
-put-plain-requires-3 : tie.Need-put-plain-requires-3
+put_plain_requires_3 : tie.Need-put_plain-requires-in-3
 unfolding part_events
-put-plain-requires-3 c κs = rw c.reg-in4.ensures (rw c.before.before.match.keys3 at c.before.before.before.before.before.before.before.requires.1)
+put_plain_requires_3 c κs = rw c.reg_in-in-3.ensures (rw c.in-3.is at c.requires.1)
 
-fourth-of-requires : tie.Need-fourth-of-requires
-fourth-of-requires c κs = c.before.before.before.before.before.before.requires.0
+fourth_of_requires : tie.Need-fourth_of-requires
+fourth_of_requires c κs = c.requires.0
 
-put-plain-requires-4 : tie.Need-put-plain-requires-4
+put_plain_requires_4 : tie.Need-put_plain-requires-in-4
 unfolding part_events
-put-plain-requires-4 c κs = rw c.fourth-of.ensures (rw c.before.before.match.keys4 at c.before.before.before.before.before.before.before.requires.1)
+put_plain_requires_4 c κs = rw c.fourth_of.ensures (rw c.in-4.is at c.requires.1)
 
-reg-in-requires-5 : tie.Need-reg-in-requires-5
-reg-in-requires-5 c κs = (c.before.before.before.before.before.before.requires.0, lit≤ tt)
+reg_in_requires_5 : tie.Need-reg_in-requires-in-5
+reg_in_requires_5 c κs = (c.requires.0, lit≤ tt)
 
-mask-in-requires : tie.Need-mask-in-requires
-mask-in-requires c κs = c.before.before.before.before.before.before.before.requires.0
+mask_in_requires : tie.Need-mask_in-requires
+mask_in_requires c κs = c.requires.0
 
-put-masked-requires : tie.Need-put-masked-requires
+put_masked_requires : tie.Need-put_masked-requires
 unfolding part_events
-put-masked-requires c κs = rw (c.mask-in.ensures, c.before.reg-in5.ensures) (rw c.before.before.before.match.keys5 at c.before.before.before.before.before.before.before.before.requires.1)
+put_masked_requires c κs = rw (c.mask_in.ensures, c.reg_in-in-5.ensures) (rw c.in-5.is at c.requires.1)
 
-reg-in-requires-6 : tie.Need-reg-in-requires-6
-reg-in-requires-6 c κs = (c.before.before.before.before.before.before.requires.0, lit≤ tt)
+reg_in_requires_6 : tie.Need-reg_in-requires-in-6
+reg_in_requires_6 c κs = (c.requires.0, lit≤ tt)
 
-mask-in-requires-2 : tie.Need-mask-in-requires-2
-mask-in-requires-2 c κs = c.before.before.before.before.before.before.before.requires.0
+mask_in_requires_2 : tie.Need-mask_in-requires-in-6
+mask_in_requires_2 c κs = c.requires.0
 
-put-masked-requires-2 : tie.Need-put-masked-requires-2
+put_masked_requires_2 : tie.Need-put_masked-requires-in-6
 unfolding part_events
-put-masked-requires-2 c κs = rw (c.mask-in2.ensures, c.before.reg-in6.ensures) (rw c.before.before.before.match.keys6 at c.before.before.before.before.before.before.before.before.requires.1)
+put_masked_requires_2 c κs = rw (c.mask_in-in-6.ensures, c.reg_in-in-6.ensures) (rw c.in-6.is at c.requires.1)
 
-reg-in-requires-7 : tie.Need-reg-in-requires-7
-reg-in-requires-7 c κs = (c.before.before.before.before.before.before.requires.0, lit≤ tt)
+reg_in_requires_7 : tie.Need-reg_in-requires-in-7
+reg_in_requires_7 c κs = (c.requires.0, lit≤ tt)
 
-mask-in-requires-3 : tie.Need-mask-in-requires-3
-mask-in-requires-3 c κs = c.before.before.before.before.before.before.before.requires.0
+mask_in_requires_3 : tie.Need-mask_in-requires-in-7
+mask_in_requires_3 c κs = c.requires.0
 
-put-masked-requires-3 : tie.Need-put-masked-requires-3
+put_masked_requires_3 : tie.Need-put_masked-requires-in-7
 unfolding part_events
-put-masked-requires-3 c κs = rw (c.mask-in3.ensures, c.before.reg-in7.ensures) (rw c.before.before.before.match.keys7 at c.before.before.before.before.before.before.before.before.requires.1)
+put_masked_requires_3 c κs = rw (c.mask_in-in-7.ensures, c.reg_in-in-7.ensures) (rw c.in-7.is at c.requires.1)
 
-mask-in-requires-4 : tie.Need-mask-in-requires-4
-mask-in-requires-4 c κs = c.before.before.before.before.before.before.requires.0
+mask_in_requires_4 : tie.Need-mask_in-requires-in-8
+mask_in_requires_4 c κs = c.requires.0
 
-put-masked-requires-4 : tie.Need-put-masked-requires-4
+put_masked_requires_4 : tie.Need-put_masked-requires-in-8
 unfolding part_events
-put-masked-requires-4 c κs = rw (c.mask-in4.ensures, c.before.before.before.before.Reg-in.ensures) (rw c.before.before.match.keys8 at c.before.before.before.before.before.before.before.requires.1)
+put_masked_requires_4 c κs = rw (c.mask_in-in-8.ensures, c.reg_in-base.ensures) (rw c.in-8.is at c.requires.1)
 
-mask-in-requires-5 : tie.Need-mask-in-requires-5
-mask-in-requires-5 c κs = c.before.before.before.before.before.before.requires.0
+mask_in_requires_5 : tie.Need-mask_in-requires-in-9
+mask_in_requires_5 c κs = c.requires.0
 
-put-masked-requires-5 : tie.Need-put-masked-requires-5
+put_masked_requires_5 : tie.Need-put_masked-requires-in-9
 unfolding part_events
-put-masked-requires-5 c κs = rw (c.mask-in5.ensures, c.before.before.before.before.Reg-in.ensures) (rw c.before.before.match.keys9 at c.before.before.before.before.before.before.before.requires.1)
+put_masked_requires_5 c κs = rw (c.mask_in-in-9.ensures, c.reg_in-base.ensures) (rw c.in-9.is at c.requires.1)
 
-reg-in-requires-8 : tie.Need-reg-in-requires-8
-reg-in-requires-8 c κs = (c.before.before.before.before.before.before.requires.0, lit≤ tt)
+reg_in_requires_8 : tie.Need-reg_in-requires-in-10
+reg_in_requires_8 c κs = (c.requires.0, lit≤ tt)
 
-mask-in-requires-6 : tie.Need-mask-in-requires-6
-mask-in-requires-6 c κs = c.before.before.before.before.before.before.before.requires.0
+mask_in_requires_6 : tie.Need-mask_in-requires-in-10
+mask_in_requires_6 c κs = c.requires.0
 
-put-masked-requires-6 : tie.Need-put-masked-requires-6
+put_masked_requires_6 : tie.Need-put_masked-requires-in-10
 unfolding part_events
-put-masked-requires-6 c κs = rw (c.mask-in6.ensures, c.before.reg-in8.ensures) (rw c.before.before.before.match.keys10 at c.before.before.before.before.before.before.before.before.requires.1)
+put_masked_requires_6 c κs = rw (c.mask_in-in-10.ensures, c.reg_in-in-10.ensures) (rw c.in-10.is at c.requires.1)
 
-put-deref-requires : tie.Need-put-deref-requires
+put_deref_requires : tie.Need-put_deref-requires
 unfolding part_events
-put-deref-requires c κs = (c.before.before.before.before.before.before.requires.0, rw c.before.before.before.Reg-in.ensures (rw c.before.match.keys11 at c.before.before.before.before.before.before.requires.1))
+put_deref_requires c κs = (c.requires.0, rw c.reg_in-base.ensures (rw c.in-18.is at c.requires.1))
 
-mask-in-requires-7 : tie.Need-mask-in-requires-7
-mask-in-requires-7 c κs = c.before.before.before.before.before.before.requires.0
+mask_in_requires_7 : tie.Need-mask_in-requires-in-19
+mask_in_requires_7 c κs = c.requires.0
 
-put-deref-requires-2 : tie.Need-put-deref-requires-2
+put_deref_requires_2 : tie.Need-put_deref-requires-in-19
 unfolding part_events
-put-deref-requires-2 c κs = (c.before.before.before.before.before.before.before.requires.0, rw (c.mask-in7.ensures, c.before.before.before.before.Reg-in.ensures) (rw c.before.before.match.keys12 at c.before.before.before.before.before.before.before.requires.1))
+put_deref_requires_2 c κs = (c.requires.0, rw (c.mask_in-in-19.ensures, c.reg_in-base.ensures) (rw c.in-19.is at c.requires.1))
 
-put-deref-requires-3 : tie.Need-put-deref-requires-3
+put_deref_requires_3 : tie.Need-put_deref-requires-in-20
 unfolding part_events
-put-deref-requires-3 c κs = (c.before.before.before.before.before.before.requires.0, rw c.before.match.keys13 at c.before.before.before.before.before.before.requires.1)
+put_deref_requires_3 c κs = (c.requires.0, rw c.in-20.is at c.requires.1)
 
-put-deref-requires-4 : tie.Need-put-deref-requires-4
+put_deref_requires_4 : tie.Need-put_deref-requires-in-21
 unfolding part_events
-put-deref-requires-4 c κs = (c.before.before.before.before.before.before.requires.0, rw c.before.match.keys14 at c.before.before.before.before.before.before.requires.1)
+put_deref_requires_4 c κs = (c.requires.0, rw c.in-21.is at c.requires.1)
 
-low-requires : tie.Need-low-requires
-low-requires c κs = search rules
+low_requires : tie.Need-low-requires
+low_requires c κs = search rules
 
-put-deref-requires-5 : tie.Need-put-deref-requires-5
+put_deref_requires_5 : tie.Need-put_deref-requires-in-22
 unfolding part_events
-put-deref-requires-5 c κs = (c.before.before.before.before.before.before.before.requires.0, rw c.low.ensures (rw c.before.before.match.keys15 at c.before.before.before.before.before.before.before.requires.1))
+put_deref_requires_5 c κs = (c.requires.0, rw c.low.ensures (rw c.in-22.is at c.requires.1))
 
-low-requires-2 : tie.Need-low-requires-2
-low-requires-2 c κs = search rules
+low_requires_2 : tie.Need-low-requires-in-23
+low_requires_2 c κs = search rules
 
-put-deref-requires-6 : tie.Need-put-deref-requires-6
+put_deref_requires_6 : tie.Need-put_deref-requires-in-23
 unfolding part_events
-put-deref-requires-6 c κs = (c.before.before.before.before.before.before.before.requires.0, rw c.low2.ensures (rw c.before.before.match.keys16 at c.before.before.before.before.before.before.before.requires.1))
+put_deref_requires_6 c κs = (c.requires.0, rw c.low-in-23.ensures (rw c.in-23.is at c.requires.1))
 
-disp-in-requires : tie.Need-disp-in-requires
-disp-in-requires c κs = c.before.before.before.before.before.before.requires.0
+disp_in_requires : tie.Need-disp_in-requires
+disp_in_requires c κs = c.requires.0
 
-sign-extended-requires : tie.Need-sign-extended-requires
-sign-extended-requires c κs = search rules
+sign_extended_requires : tie.Need-sign_extended-requires
+sign_extended_requires c κs = search rules
 
-plus-requires : tie.Need-plus-requires
-plus-requires c κs = search rules
+plus_requires : tie.Need-plus-requires
+plus_requires c κs = search rules
 
-put-deref-requires-7 : tie.Need-put-deref-requires-7
+put_deref_requires_7 : tie.Need-put_deref-requires-in-24
 unfolding part_events
-put-deref-requires-7 c κs = (c.before.before.before.before.before.before.before.before.before.requires.0, rw (c.plus.ensures, c.before.sign_extended.ensures, c.before.before.disp_in.ensures, c.before.before.before.before.before.before.Reg-in.ensures) (rw c.before.before.before.before.match.keys17 at c.before.before.before.before.before.before.before.before.before.requires.1))
+put_deref_requires_7 c κs = (c.requires.0, rw (c.plus.ensures, c.sign_extended.ensures, c.disp_in.ensures, c.reg_in-base.ensures) (rw c.in-24.is at c.requires.1))
 
-mask-in-requires-8 : tie.Need-mask-in-requires-8
-mask-in-requires-8 c κs = c.before.before.before.before.before.before.requires.0
+mask_in_requires_8 : tie.Need-mask_in-requires-in-25
+mask_in_requires_8 c κs = c.requires.0
 
-disp-in-requires-2 : tie.Need-disp-in-requires-2
-disp-in-requires-2 c κs = c.before.before.before.before.before.before.before.requires.0
+disp_in_requires_2 : tie.Need-disp_in-requires-in-25
+disp_in_requires_2 c κs = c.requires.0
 
-sign-extended-requires-2 : tie.Need-sign-extended-requires-2
-sign-extended-requires-2 c κs = search rules
+sign_extended_requires_2 : tie.Need-sign_extended-requires-in-25
+sign_extended_requires_2 c κs = search rules
 
-plus-requires-2 : tie.Need-plus-requires-2
-plus-requires-2 c κs = search rules
+plus_requires_2 : tie.Need-plus-requires-in-25
+plus_requires_2 c κs = search rules
 
-put-deref-requires-8 : tie.Need-put-deref-requires-8
+put_deref_requires_8 : tie.Need-put_deref-requires-in-25
 unfolding part_events
-put-deref-requires-8 c κs = (c.before.before.before.before.before.before.before.before.before.before.requires.0, rw (c.plus2.ensures, c.before.sign-extended2.ensures, c.before.before.disp-in2.ensures, c.before.before.before.mask-in8.ensures, c.before.before.before.before.before.before.before.Reg-in.ensures) (rw c.before.before.before.before.before.match.keys18 at c.before.before.before.before.before.before.before.before.before.before.requires.1))
+put_deref_requires_8 c κs = (c.requires.0, rw (c.plus-in-25.ensures, c.sign_extended-in-25.ensures, c.disp_in-in-25.ensures, c.mask_in-in-25.ensures, c.reg_in-base.ensures) (rw c.in-25.is at c.requires.1))
 
-put-deref-requires-9 : tie.Need-put-deref-requires-9
+put_deref_requires_9 : tie.Need-put_deref-requires-in-26
 unfolding part_events
-put-deref-requires-9 c κs = (c.before.before.before.before.before.before.requires.0, rw c.before.before.reg-in2.ensures (rw c.before.match.keys19 at c.before.before.before.before.before.before.requires.1))
+put_deref_requires_9 c κs = (c.requires.0, rw c.reg_in-index.ensures (rw c.in-26.is at c.requires.1))
 
-mask-in-requires-9 : tie.Need-mask-in-requires-9
-mask-in-requires-9 c κs = c.before.before.before.before.before.before.requires.0
+mask_in_requires_9 : tie.Need-mask_in-requires-in-27
+mask_in_requires_9 c κs = c.requires.0
 
-put-deref-requires-10 : tie.Need-put-deref-requires-10
+put_deref_requires_10 : tie.Need-put_deref-requires-in-27
 unfolding part_events
-put-deref-requires-10 c κs = (c.before.before.before.before.before.before.before.requires.0, rw (c.mask-in9.ensures, c.before.before.before.reg-in2.ensures) (rw c.before.before.match.keys20 at c.before.before.before.before.before.before.before.requires.1))
+put_deref_requires_10 c κs = (c.requires.0, rw (c.mask_in-in-27.ensures, c.reg_in-index.ensures) (rw c.in-27.is at c.requires.1))
 
-disp-in-requires-3 : tie.Need-disp-in-requires-3
-disp-in-requires-3 c κs = c.before.before.before.before.before.before.requires.0
+disp_in_requires_3 : tie.Need-disp_in-requires-in-28
+disp_in_requires_3 c κs = c.requires.0
 
-sign-extended-requires-3 : tie.Need-sign-extended-requires-3
-sign-extended-requires-3 c κs = search rules
+sign_extended_requires_3 : tie.Need-sign_extended-requires-in-28
+sign_extended_requires_3 c κs = search rules
 
-plus-requires-3 : tie.Need-plus-requires-3
-plus-requires-3 c κs = search rules
+plus_requires_3 : tie.Need-plus-requires-in-28
+plus_requires_3 c κs = search rules
 
-put-deref-requires-11 : tie.Need-put-deref-requires-11
+put_deref_requires_11 : tie.Need-put_deref-requires-in-28
 unfolding part_events
-put-deref-requires-11 c κs = (c.before.before.before.before.before.before.before.before.before.requires.0, rw (c.plus3.ensures, c.before.sign-extended3.ensures, c.before.before.disp-in3.ensures, c.before.before.before.before.before.reg-in2.ensures) (rw c.before.before.before.before.match.keys21 at c.before.before.before.before.before.before.before.before.before.requires.1))
+put_deref_requires_11 c κs = (c.requires.0, rw (c.plus-in-28.ensures, c.sign_extended-in-28.ensures, c.disp_in-in-28.ensures, c.reg_in-index.ensures) (rw c.in-28.is at c.requires.1))
 
-mask-in-requires-10 : tie.Need-mask-in-requires-10
-mask-in-requires-10 c κs = c.before.before.before.before.before.before.requires.0
+mask_in_requires_10 : tie.Need-mask_in-requires-in-29
+mask_in_requires_10 c κs = c.requires.0
 
-disp-in-requires-4 : tie.Need-disp-in-requires-4
-disp-in-requires-4 c κs = c.before.before.before.before.before.before.before.requires.0
+disp_in_requires_4 : tie.Need-disp_in-requires-in-29
+disp_in_requires_4 c κs = c.requires.0
 
-sign-extended-requires-4 : tie.Need-sign-extended-requires-4
-sign-extended-requires-4 c κs = search rules
+sign_extended_requires_4 : tie.Need-sign_extended-requires-in-29
+sign_extended_requires_4 c κs = search rules
 
-plus-requires-4 : tie.Need-plus-requires-4
-plus-requires-4 c κs = search rules
+plus_requires_4 : tie.Need-plus-requires-in-29
+plus_requires_4 c κs = search rules
 
-put-deref-requires-12 : tie.Need-put-deref-requires-12
+put_deref_requires_12 : tie.Need-put_deref-requires-in-29
 unfolding part_events
-put-deref-requires-12 c κs = (c.before.before.before.before.before.before.before.before.before.before.requires.0, rw (c.plus4.ensures, c.before.sign-extended4.ensures, c.before.before.disp-in4.ensures, c.before.before.before.mask-in10.ensures, c.before.before.before.before.before.before.reg-in2.ensures) (rw c.before.before.before.before.before.match.keys22 at c.before.before.before.before.before.before.before.before.before.before.requires.1))
+put_deref_requires_12 c κs = (c.requires.0, rw (c.plus-in-29.ensures, c.sign_extended-in-29.ensures, c.disp_in-in-29.ensures, c.mask_in-in-29.ensures, c.reg_in-index.ensures) (rw c.in-29.is at c.requires.1))
 
-sum-requires : tie.Need-sum-requires
-sum-requires c κs = search rules
+sum_requires : tie.Need-sum-requires
+sum_requires c κs = search rules
 
-put-indexed-requires : tie.Need-put-indexed-requires
+put_indexed_requires : tie.Need-put_indexed-requires
 unfolding part_events
-put-indexed-requires c κs = (c.before.before.before.before.before.before.before.requires.0, rw c.sum.ensures (rw c.before.before.match.keys23 at c.before.before.before.before.before.before.before.requires.1))
+put_indexed_requires c κs = (c.requires.0, rw c.sum.ensures (rw c.in-30.is at c.requires.1))
 
-mask-in-requires-11 : tie.Need-mask-in-requires-11
-mask-in-requires-11 c κs = c.before.before.before.before.before.before.requires.0
+mask_in_requires_11 : tie.Need-mask_in-requires-in-31
+mask_in_requires_11 c κs = c.requires.0
 
-sum-requires-2 : tie.Need-sum-requires-2
-sum-requires-2 c κs = search rules
+sum_requires_2 : tie.Need-sum-requires-in-31
+sum_requires_2 c κs = search rules
 
-put-indexed-requires-2 : tie.Need-put-indexed-requires-2
+put_indexed_requires_2 : tie.Need-put_indexed-requires-in-31
 unfolding part_events
-put-indexed-requires-2 c κs = (c.before.before.before.before.before.before.before.before.requires.0, rw (c.sum2.ensures, c.before.mask-in11.ensures) (rw c.before.before.before.match.keys24 at c.before.before.before.before.before.before.before.before.requires.1))
+put_indexed_requires_2 c κs = (c.requires.0, rw (c.sum-in-31.ensures, c.mask_in-in-31.ensures) (rw c.in-31.is at c.requires.1))
 
-sum-requires-3 : tie.Need-sum-requires-3
-sum-requires-3 c κs = search rules
+sum_requires_3 : tie.Need-sum-requires-in-32
+sum_requires_3 c κs = search rules
 
-disp-in-requires-5 : tie.Need-disp-in-requires-5
-disp-in-requires-5 c κs = c.before.before.before.before.before.before.before.requires.0
+disp_in_requires_5 : tie.Need-disp_in-requires-in-32
+disp_in_requires_5 c κs = c.requires.0
 
-sign-extended-requires-5 : tie.Need-sign-extended-requires-5
-sign-extended-requires-5 c κs = search rules
+sign_extended_requires_5 : tie.Need-sign_extended-requires-in-32
+sign_extended_requires_5 c κs = search rules
 
-plus-requires-5 : tie.Need-plus-requires-5
-plus-requires-5 c κs = search rules
+plus_requires_5 : tie.Need-plus-requires-in-32
+plus_requires_5 c κs = search rules
 
-put-indexed-requires-3 : tie.Need-put-indexed-requires-3
+put_indexed_requires_3 : tie.Need-put_indexed-requires-in-32
 unfolding part_events
-put-indexed-requires-3 c κs = (c.before.before.before.before.before.before.before.before.before.before.requires.0, rw (c.plus5.ensures, c.before.sign-extended5.ensures, c.before.before.disp-in5.ensures, c.before.before.before.sum3.ensures) (rw c.before.before.before.before.before.match.keys25 at c.before.before.before.before.before.before.before.before.before.before.requires.1))
+put_indexed_requires_3 c κs = (c.requires.0, rw (c.plus-in-32.ensures, c.sign_extended-in-32.ensures, c.disp_in-in-32.ensures, c.sum-in-32.ensures) (rw c.in-32.is at c.requires.1))
 
-mask-in-requires-12 : tie.Need-mask-in-requires-12
-mask-in-requires-12 c κs = c.before.before.before.before.before.before.requires.0
+mask_in_requires_12 : tie.Need-mask_in-requires-in-33
+mask_in_requires_12 c κs = c.requires.0
 
-sum-requires-4 : tie.Need-sum-requires-4
-sum-requires-4 c κs = search rules
+sum_requires_4 : tie.Need-sum-requires-in-33
+sum_requires_4 c κs = search rules
 
-disp-in-requires-6 : tie.Need-disp-in-requires-6
-disp-in-requires-6 c κs = c.before.before.before.before.before.before.before.before.requires.0
+disp_in_requires_6 : tie.Need-disp_in-requires-in-33
+disp_in_requires_6 c κs = c.requires.0
 
-sign-extended-requires-6 : tie.Need-sign-extended-requires-6
-sign-extended-requires-6 c κs = search rules
+sign_extended_requires_6 : tie.Need-sign_extended-requires-in-33
+sign_extended_requires_6 c κs = search rules
 
-plus-requires-6 : tie.Need-plus-requires-6
-plus-requires-6 c κs = search rules
+plus_requires_6 : tie.Need-plus-requires-in-33
+plus_requires_6 c κs = search rules
 
-put-indexed-requires-4 : tie.Need-put-indexed-requires-4
+put_indexed_requires_4 : tie.Need-put_indexed-requires-in-33
 unfolding part_events
-put-indexed-requires-4 c κs = (c.before.before.before.before.before.before.before.before.before.before.before.requires.0, rw (c.plus6.ensures, c.before.sign-extended6.ensures, c.before.before.disp-in6.ensures, c.before.before.before.sum4.ensures, c.before.before.before.before.mask-in12.ensures) (rw c.before.before.before.before.before.before.match.keys26 at c.before.before.before.before.before.before.before.before.before.before.before.requires.1))
+put_indexed_requires_4 c κs = (c.requires.0, rw (c.plus-in-33.ensures, c.sign_extended-in-33.ensures, c.disp_in-in-33.ensures, c.sum-in-33.ensures, c.mask_in-in-33.ensures) (rw c.in-33.is at c.requires.1))
 
-disp-in-requires-7 : tie.Need-disp-in-requires-7
-disp-in-requires-7 c κs = c.before.before.before.before.before.before.requires.0
+disp_in_requires_7 : tie.Need-disp_in-requires-in-34
+disp_in_requires_7 c κs = c.requires.0
 
-plus-requires-7 : tie.Need-plus-requires-7
-plus-requires-7 c κs = search rules
+plus_requires_7 : tie.Need-plus-requires-in-34
+plus_requires_7 c κs = search rules
 
-put-access-requires : tie.Need-put-access-requires
+put_access_requires : tie.Need-put_access-requires
 unfolding part_events
-put-access-requires c κs = (c.before.before.before.before.before.before.before.before.requires.0, rw (c.plus7.ensures, c.before.disp-in7.ensures) (rw c.before.before.before.match.keys27 at c.before.before.before.before.before.before.before.before.requires.1))
+put_access_requires c κs = (c.requires.0, rw (c.plus-in-34.ensures, c.disp_in-in-34.ensures) (rw c.in-34.is at c.requires.1))
 
-disp-in-requires-8 : tie.Need-disp-in-requires-8
-disp-in-requires-8 c κs = c.before.before.before.before.before.before.requires.0
+disp_in_requires_8 : tie.Need-disp_in-requires-in-35
+disp_in_requires_8 c κs = c.requires.0
 
-plus-requires-8 : tie.Need-plus-requires-8
-plus-requires-8 c κs = search rules
+plus_requires_8 : tie.Need-plus-requires-in-35
+plus_requires_8 c κs = search rules
 
-put-access-requires-2 : tie.Need-put-access-requires-2
+put_access_requires_2 : tie.Need-put_access-requires-in-35
 unfolding part_events
-put-access-requires-2 c κs = (c.before.before.before.before.before.before.before.before.requires.0, rw (c.plus8.ensures, c.before.disp-in8.ensures) (rw c.before.before.before.match.keys28 at c.before.before.before.before.before.before.before.before.requires.1))
+put_access_requires_2 c κs = (c.requires.0, rw (c.plus-in-35.ensures, c.disp_in-in-35.ensures) (rw c.in-35.is at c.requires.1))
 
-same_length : tie.Need-same-length
+same_length : tie.Need-shape_of-log-in-1
 same_length c = search rules
 
-returns : tie.Need-returns
+returns : tie.Need-returns-in-1
 unfolding part_events
-returns c = rw c.before.before.before.before.before.match.keys1 (rw c.before.before.before.reg-in3.ensures at c.before.before.put-plain.ensures)
+returns c = rw c.in-1.is (rw c.reg_in.ensures at c.put_plain.ensures)
 
-same-length-2 : tie.Need-same-length-2
-same-length-2 c = search rules
+same_length_2 : tie.Need-shape_of-log-in-2
+same_length_2 c = search rules
 
-returns-2 : tie.Need-returns-2
+returns_2 : tie.Need-returns-in-2
 unfolding part_events
-returns-2 c = rw c.before.before.before.before.match.keys2 (rw c.before.before.before.before.before.before.Reg-in.ensures at c.before.before.put-plain2.ensures)
+returns_2 c = rw c.in-2.is (rw c.reg_in-base.ensures at c.put_plain-in-2.ensures)
 
-same-length-3 : tie.Need-same-length-3
-same-length-3 c = search rules
+same_length_3 : tie.Need-shape_of-log-in-3
+same_length_3 c = search rules
 
-returns-3 : tie.Need-returns-3
+returns_3 : tie.Need-returns-in-3
 unfolding part_events
-returns-3 c = rw c.before.before.before.before.before.match.keys3 (rw c.before.before.before.reg-in4.ensures at c.before.before.put-plain3.ensures)
+returns_3 c = rw c.in-3.is (rw c.reg_in-in-3.ensures at c.put_plain-in-3.ensures)
 
-same-length-4 : tie.Need-same-length-4
-same-length-4 c = search rules
+same_length_4 : tie.Need-shape_of-log-in-4
+same_length_4 c = search rules
 
-returns-4 : tie.Need-returns-4
+returns_4 : tie.Need-returns-in-4
 unfolding part_events
-returns-4 c = rw c.before.before.before.before.before.match.keys4 (rw c.before.before.before.fourth-of.ensures at c.before.before.put-plain4.ensures)
+returns_4 c = rw c.in-4.is (rw c.fourth_of.ensures at c.put_plain-in-4.ensures)
 
-same-length-5 : tie.Need-same-length-5
-same-length-5 c = search rules
+same_length_5 : tie.Need-shape_of-log-in-5
+same_length_5 c = search rules
 
-returns-5 : tie.Need-returns-5
+returns_5 : tie.Need-returns-in-5
 unfolding part_events
-returns-5 c = rw c.before.before.before.before.before.before.match.keys5 (rw (c.before.before.before.mask-in.ensures, c.before.before.before.before.reg-in5.ensures) at c.before.before.put-masked.ensures)
+returns_5 c = rw c.in-5.is (rw (c.mask_in.ensures, c.reg_in-in-5.ensures) at c.put_masked.ensures)
 
-same-length-6 : tie.Need-same-length-6
-same-length-6 c = search rules
+same_length_6 : tie.Need-shape_of-log-in-6
+same_length_6 c = search rules
 
-returns-6 : tie.Need-returns-6
+returns_6 : tie.Need-returns-in-6
 unfolding part_events
-returns-6 c = rw c.before.before.before.before.before.before.match.keys6 (rw (c.before.before.before.mask-in2.ensures, c.before.before.before.before.reg-in6.ensures) at c.before.before.put-masked2.ensures)
+returns_6 c = rw c.in-6.is (rw (c.mask_in-in-6.ensures, c.reg_in-in-6.ensures) at c.put_masked-in-6.ensures)
 
-same-length-7 : tie.Need-same-length-7
-same-length-7 c = search rules
+same_length_7 : tie.Need-shape_of-log-in-7
+same_length_7 c = search rules
 
-returns-7 : tie.Need-returns-7
+returns_7 : tie.Need-returns-in-7
 unfolding part_events
-returns-7 c = rw c.before.before.before.before.before.before.match.keys7 (rw (c.before.before.before.mask-in3.ensures, c.before.before.before.before.reg-in7.ensures) at c.before.before.put-masked3.ensures)
+returns_7 c = rw c.in-7.is (rw (c.mask_in-in-7.ensures, c.reg_in-in-7.ensures) at c.put_masked-in-7.ensures)
 
-same-length-8 : tie.Need-same-length-8
-same-length-8 c = search rules
+same_length_8 : tie.Need-shape_of-log-in-8
+same_length_8 c = search rules
 
-returns-8 : tie.Need-returns-8
+returns_8 : tie.Need-returns-in-8
 unfolding part_events
-returns-8 c = rw c.before.before.before.before.before.match.keys8 (rw (c.before.before.before.mask-in4.ensures, c.before.before.before.before.before.before.before.Reg-in.ensures) at c.before.before.put-masked4.ensures)
+returns_8 c = rw c.in-8.is (rw (c.mask_in-in-8.ensures, c.reg_in-base.ensures) at c.put_masked-in-8.ensures)
 
-same-length-9 : tie.Need-same-length-9
-same-length-9 c = search rules
+same_length_9 : tie.Need-shape_of-log-in-9
+same_length_9 c = search rules
 
-returns-9 : tie.Need-returns-9
+returns_9 : tie.Need-returns-in-9
 unfolding part_events
-returns-9 c = rw c.before.before.before.before.before.match.keys9 (rw (c.before.before.before.mask-in5.ensures, c.before.before.before.before.before.before.before.Reg-in.ensures) at c.before.before.put-masked5.ensures)
+returns_9 c = rw c.in-9.is (rw (c.mask_in-in-9.ensures, c.reg_in-base.ensures) at c.put_masked-in-9.ensures)
 
-same-length-10 : tie.Need-same-length-10
-same-length-10 c = search rules
+same_length_10 : tie.Need-shape_of-log-in-10
+same_length_10 c = search rules
 
-returns-10 : tie.Need-returns-10
+returns_10 : tie.Need-returns-in-10
 unfolding part_events
-returns-10 c = rw c.before.before.before.before.before.before.match.keys10 (rw (c.before.before.before.mask-in6.ensures, c.before.before.before.before.reg-in8.ensures) at c.before.before.put-masked6.ensures)
+returns_10 c = rw c.in-10.is (rw (c.mask_in-in-10.ensures, c.reg_in-in-10.ensures) at c.put_masked-in-10.ensures)
 
-same-length-11 : tie.Need-same-length-11
-same-length-11 c = search rules
+same_length_11 : tie.Need-shape_of-log-in-18
+same_length_11 c = search rules
 
-returns-11 : tie.Need-returns-11
+returns_11 : tie.Need-returns-in-18
 unfolding part_events
-returns-11 c = rw c.before.before.before.before.match.keys11 (rw c.before.before.before.before.before.before.Reg-in.ensures at c.before.before.put-deref.ensures)
+returns_11 c = rw c.in-18.is (rw c.reg_in-base.ensures at c.put_deref.ensures)
 
-same-length-12 : tie.Need-same-length-12
-same-length-12 c = search rules
+same_length_12 : tie.Need-shape_of-log-in-19
+same_length_12 c = search rules
 
-returns-12 : tie.Need-returns-12
+returns_12 : tie.Need-returns-in-19
 unfolding part_events
-returns-12 c = rw c.before.before.before.before.before.match.keys12 (rw (c.before.before.before.mask-in7.ensures, c.before.before.before.before.before.before.before.Reg-in.ensures) at c.before.before.put-deref2.ensures)
+returns_12 c = rw c.in-19.is (rw (c.mask_in-in-19.ensures, c.reg_in-base.ensures) at c.put_deref-in-19.ensures)
 
-same-length-13 : tie.Need-same-length-13
-same-length-13 c = search rules
+same_length_13 : tie.Need-shape_of-log-in-20
+same_length_13 c = search rules
 
-returns-13 : tie.Need-returns-13
+returns_13 : tie.Need-returns-in-20
 unfolding part_events
-returns-13 c = rw c.before.before.before.before.match.keys13 c.before.before.put-deref3.ensures
+returns_13 c = rw c.in-20.is c.put_deref-in-20.ensures
 
-same-length-14 : tie.Need-same-length-14
-same-length-14 c = search rules
+same_length_14 : tie.Need-shape_of-log-in-21
+same_length_14 c = search rules
 
-returns-14 : tie.Need-returns-14
+returns_14 : tie.Need-returns-in-21
 unfolding part_events
-returns-14 c = rw c.before.before.before.before.match.keys14 c.before.before.put-deref4.ensures
+returns_14 c = rw c.in-21.is c.put_deref-in-21.ensures
 
-same-length-15 : tie.Need-same-length-15
-same-length-15 c = search rules
+same_length_15 : tie.Need-shape_of-log-in-22
+same_length_15 c = search rules
 
-returns-15 : tie.Need-returns-15
+returns_15 : tie.Need-returns-in-22
 unfolding part_events
-returns-15 c = rw c.before.before.before.before.before.match.keys15 (rw c.before.before.before.low.ensures at c.before.before.put-deref5.ensures)
+returns_15 c = rw c.in-22.is (rw c.low.ensures at c.put_deref-in-22.ensures)
 
-same-length-16 : tie.Need-same-length-16
-same-length-16 c = search rules
+same_length_16 : tie.Need-shape_of-log-in-23
+same_length_16 c = search rules
 
-returns-16 : tie.Need-returns-16
+returns_16 : tie.Need-returns-in-23
 unfolding part_events
-returns-16 c = rw c.before.before.before.before.before.match.keys16 (rw c.before.before.before.low2.ensures at c.before.before.put-deref6.ensures)
+returns_16 c = rw c.in-23.is (rw c.low-in-23.ensures at c.put_deref-in-23.ensures)
 
-same-length-17 : tie.Need-same-length-17
-same-length-17 c = search rules
+same_length_17 : tie.Need-shape_of-log-in-24
+same_length_17 c = search rules
 
-returns-17 : tie.Need-returns-17
+returns_17 : tie.Need-returns-in-24
 unfolding part_events
-returns-17 c = rw c.before.before.before.before.before.before.before.match.keys17 (rw (c.before.before.before.plus.ensures, c.before.before.before.before.sign_extended.ensures, c.before.before.before.before.before.disp_in.ensures, c.before.before.before.before.before.before.before.before.before.Reg-in.ensures) at c.before.before.put-deref7.ensures)
+returns_17 c = rw c.in-24.is (rw (c.plus.ensures, c.sign_extended.ensures, c.disp_in.ensures, c.reg_in-base.ensures) at c.put_deref-in-24.ensures)
 
-same-length-18 : tie.Need-same-length-18
-same-length-18 c = search rules
+same_length_18 : tie.Need-shape_of-log-in-25
+same_length_18 c = search rules
 
-returns-18 : tie.Need-returns-18
+returns_18 : tie.Need-returns-in-25
 unfolding part_events
-returns-18 c = rw c.before.before.before.before.before.before.before.before.match.keys18 (rw (c.before.before.before.plus2.ensures, c.before.before.before.before.sign-extended2.ensures, c.before.before.before.before.before.disp-in2.ensures, c.before.before.before.before.before.before.mask-in8.ensures, c.before.before.before.before.before.before.before.before.before.before.Reg-in.ensures) at c.before.before.put-deref8.ensures)
+returns_18 c = rw c.in-25.is (rw (c.plus-in-25.ensures, c.sign_extended-in-25.ensures, c.disp_in-in-25.ensures, c.mask_in-in-25.ensures, c.reg_in-base.ensures) at c.put_deref-in-25.ensures)
 
-same-length-19 : tie.Need-same-length-19
-same-length-19 c = search rules
+same_length_19 : tie.Need-shape_of-log-in-26
+same_length_19 c = search rules
 
-returns-19 : tie.Need-returns-19
+returns_19 : tie.Need-returns-in-26
 unfolding part_events
-returns-19 c = rw c.before.before.before.before.match.keys19 (rw c.before.before.before.before.before.reg-in2.ensures at c.before.before.put-deref9.ensures)
+returns_19 c = rw c.in-26.is (rw c.reg_in-index.ensures at c.put_deref-in-26.ensures)
 
-same-length-20 : tie.Need-same-length-20
-same-length-20 c = search rules
+same_length_20 : tie.Need-shape_of-log-in-27
+same_length_20 c = search rules
 
-returns-20 : tie.Need-returns-20
+returns_20 : tie.Need-returns-in-27
 unfolding part_events
-returns-20 c = rw c.before.before.before.before.before.match.keys20 (rw (c.before.before.before.mask-in9.ensures, c.before.before.before.before.before.before.reg-in2.ensures) at c.before.before.put-deref10.ensures)
+returns_20 c = rw c.in-27.is (rw (c.mask_in-in-27.ensures, c.reg_in-index.ensures) at c.put_deref-in-27.ensures)
 
-same-length-21 : tie.Need-same-length-21
-same-length-21 c = search rules
+same_length_21 : tie.Need-shape_of-log-in-28
+same_length_21 c = search rules
 
-returns-21 : tie.Need-returns-21
+returns_21 : tie.Need-returns-in-28
 unfolding part_events
-returns-21 c = rw c.before.before.before.before.before.before.before.match.keys21 (rw (c.before.before.before.plus3.ensures, c.before.before.before.before.sign-extended3.ensures, c.before.before.before.before.before.disp-in3.ensures, c.before.before.before.before.before.before.before.before.reg-in2.ensures) at c.before.before.put-deref11.ensures)
+returns_21 c = rw c.in-28.is (rw (c.plus-in-28.ensures, c.sign_extended-in-28.ensures, c.disp_in-in-28.ensures, c.reg_in-index.ensures) at c.put_deref-in-28.ensures)
 
-same-length-22 : tie.Need-same-length-22
-same-length-22 c = search rules
+same_length_22 : tie.Need-shape_of-log-in-29
+same_length_22 c = search rules
 
-returns-22 : tie.Need-returns-22
+returns_22 : tie.Need-returns-in-29
 unfolding part_events
-returns-22 c = rw c.before.before.before.before.before.before.before.before.match.keys22 (rw (c.before.before.before.plus4.ensures, c.before.before.before.before.sign-extended4.ensures, c.before.before.before.before.before.disp-in4.ensures, c.before.before.before.before.before.before.mask-in10.ensures, c.before.before.before.before.before.before.before.before.before.reg-in2.ensures) at c.before.before.put-deref12.ensures)
+returns_22 c = rw c.in-29.is (rw (c.plus-in-29.ensures, c.sign_extended-in-29.ensures, c.disp_in-in-29.ensures, c.mask_in-in-29.ensures, c.reg_in-index.ensures) at c.put_deref-in-29.ensures)
 
-same-length-23 : tie.Need-same-length-23
-same-length-23 c = search rules
+same_length_23 : tie.Need-shape_of-log-in-30
+same_length_23 c = search rules
 
-returns-23 : tie.Need-returns-23
+returns_23 : tie.Need-returns-in-30
 unfolding part_events
-returns-23 c = rw c.before.before.before.before.before.match.keys23 (rw c.before.before.before.sum.ensures at c.before.before.put-indexed.ensures)
+returns_23 c = rw c.in-30.is (rw c.sum.ensures at c.put_indexed.ensures)
 
-same-length-24 : tie.Need-same-length-24
-same-length-24 c = search rules
+same_length_24 : tie.Need-shape_of-log-in-31
+same_length_24 c = search rules
 
-returns-24 : tie.Need-returns-24
+returns_24 : tie.Need-returns-in-31
 unfolding part_events
-returns-24 c = rw c.before.before.before.before.before.before.match.keys24 (rw (c.before.before.before.sum2.ensures, c.before.before.before.before.mask-in11.ensures) at c.before.before.put-indexed2.ensures)
+returns_24 c = rw c.in-31.is (rw (c.sum-in-31.ensures, c.mask_in-in-31.ensures) at c.put_indexed-in-31.ensures)
 
-same-length-25 : tie.Need-same-length-25
-same-length-25 c = search rules
+same_length_25 : tie.Need-shape_of-log-in-32
+same_length_25 c = search rules
 
-returns-25 : tie.Need-returns-25
+returns_25 : tie.Need-returns-in-32
 unfolding part_events
-returns-25 c = rw c.before.before.before.before.before.before.before.before.match.keys25 (rw (c.before.before.before.plus5.ensures, c.before.before.before.before.sign-extended5.ensures, c.before.before.before.before.before.disp-in5.ensures, c.before.before.before.before.before.before.sum3.ensures) at c.before.before.put-indexed3.ensures)
+returns_25 c = rw c.in-32.is (rw (c.plus-in-32.ensures, c.sign_extended-in-32.ensures, c.disp_in-in-32.ensures, c.sum-in-32.ensures) at c.put_indexed-in-32.ensures)
 
-same-length-26 : tie.Need-same-length-26
-same-length-26 c = search rules
+same_length_26 : tie.Need-shape_of-log-in-33
+same_length_26 c = search rules
 
-returns-26 : tie.Need-returns-26
+returns_26 : tie.Need-returns-in-33
 unfolding part_events
-returns-26 c = rw c.before.before.before.before.before.before.before.before.before.match.keys26 (rw (c.before.before.before.plus6.ensures, c.before.before.before.before.sign-extended6.ensures, c.before.before.before.before.before.disp-in6.ensures, c.before.before.before.before.before.before.sum4.ensures, c.before.before.before.before.before.before.before.mask-in12.ensures) at c.before.before.put-indexed4.ensures)
+returns_26 c = rw c.in-33.is (rw (c.plus-in-33.ensures, c.sign_extended-in-33.ensures, c.disp_in-in-33.ensures, c.sum-in-33.ensures, c.mask_in-in-33.ensures) at c.put_indexed-in-33.ensures)
 
-same-length-27 : tie.Need-same-length-27
-same-length-27 c = search rules
+same_length_27 : tie.Need-shape_of-log-in-34
+same_length_27 c = search rules
 
-returns-27 : tie.Need-returns-27
+returns_27 : tie.Need-returns-in-34
 unfolding part_events
-returns-27 c = rw c.before.before.before.before.before.before.match.keys27 (rw (c.before.before.before.plus7.ensures, c.before.before.before.before.disp-in7.ensures) at c.before.before.put-access.ensures)
+returns_27 c = rw c.in-34.is (rw (c.plus-in-34.ensures, c.disp_in-in-34.ensures) at c.put_access.ensures)
 
-same-length-28 : tie.Need-same-length-28
-same-length-28 c = search rules
+same_length_28 : tie.Need-shape_of-log-in-35
+same_length_28 c = search rules
 
-returns-28 : tie.Need-returns-28
+returns_28 : tie.Need-returns-in-35
 unfolding part_events
-returns-28 c = rw c.before.before.before.before.before.before.match.keys28 (rw (c.before.before.before.plus8.ensures, c.before.before.before.before.disp-in8.ensures) at c.before.before.put-access2.ensures)
+returns_28 c = rw c.in-35.is (rw (c.plus-in-35.ensures, c.disp_in-in-35.ensures) at c.put_access-in-35.ensures)
 
-returns-29 : tie.Need-returns-29
+returns_29 : tie.Need-returns-in_default
 unfolding part_events
-returns-29 c = rw (others (parts (record_of c.before.before.before.before.before.args.b.now) c.before.before.before.before.before.args.way c.before.before.before.before.before.args.at c.before.before.before.before.before.args.added) [] c.before.before.before.before.before.args.spec (inr refl, (inl c.match.rest.0.0.0.0.0.0.0.0.0.0.0.0.0.0.0.0.0.0.0.0.0.0.0.0.0.0.0.1, (inl c.match.rest.0.0.0.0.0.0.0.0.0.0.0.0.0.0.0.0.0.0.0.0.0.0.0.0.0.0.1, (inl c.match.rest.0.0.0.0.0.0.0.0.0.0.0.0.0.0.0.0.0.0.0.0.0.0.0.0.0.1, (inl c.match.rest.0.0.0.0.0.0.0.0.0.0.0.0.0.0.0.0.0.0.0.0.0.0.0.0.1, (inl c.match.rest.0.0.0.0.0.0.0.0.0.0.0.0.0.0.0.0.0.0.0.0.0.0.0.1, (inl c.match.rest.0.0.0.0.0.0.0.0.0.0.0.0.0.0.0.0.0.0.0.0.0.0.1, (inl c.match.rest.0.0.0.0.0.0.0.0.0.0.0.0.0.0.0.0.0.0.0.0.0.1, (inl c.match.rest.0.0.0.0.0.0.0.0.0.0.0.0.0.0.0.0.0.0.0.0.1, (inl c.match.rest.0.0.0.0.0.0.0.0.0.0.0.0.0.0.0.0.0.0.0.1, (inl c.match.rest.0.0.0.0.0.0.0.0.0.0.0.0.0.0.0.0.0.0.1, (inr refl, (inr refl, (inr refl, (inr refl, (inr refl, (inr refl, (inr refl, (inl c.match.rest.0.0.0.0.0.0.0.0.0.0.0.0.0.0.0.0.0.1, (inl c.match.rest.0.0.0.0.0.0.0.0.0.0.0.0.0.0.0.0.1, (inl c.match.rest.0.0.0.0.0.0.0.0.0.0.0.0.0.0.0.1, (inl c.match.rest.0.0.0.0.0.0.0.0.0.0.0.0.0.0.1, (inl c.match.rest.0.0.0.0.0.0.0.0.0.0.0.0.0.1, (inl c.match.rest.0.0.0.0.0.0.0.0.0.0.0.0.1, (inl c.match.rest.0.0.0.0.0.0.0.0.0.0.0.1, (inl c.match.rest.0.0.0.0.0.0.0.0.0.0.1, (inl c.match.rest.0.0.0.0.0.0.0.0.0.1, (inl c.match.rest.0.0.0.0.0.0.0.0.1, (inl c.match.rest.0.0.0.0.0.0.0.1, (inl c.match.rest.0.0.0.0.0.0.1, (inl c.match.rest.0.0.0.0.0.1, (inl c.match.rest.0.0.0.0.1, (inl c.match.rest.0.0.0.1, (inl c.match.rest.0.0.1, (inl c.match.rest.0.1, (inl c.match.rest.1, tt))))))))))))))))))))))))))))))))))))) (silent event_bytes c.before.before.before.before.before.args.log.now)
+returns_29 c = rw (others (parts (record_of c.args.b.now) c.args.way c.args.at c.args.added) [] c.args.spec (inr refl, (inl c.in_default.in_default-own.rest.0.0.0.0.0.0.0.0.0.0.0.0.0.0.0.0.0.0.0.0.0.0.0.0.0.0.0.1, (inl c.in_default.in_default-own.rest.0.0.0.0.0.0.0.0.0.0.0.0.0.0.0.0.0.0.0.0.0.0.0.0.0.0.1, (inl c.in_default.in_default-own.rest.0.0.0.0.0.0.0.0.0.0.0.0.0.0.0.0.0.0.0.0.0.0.0.0.0.1, (inl c.in_default.in_default-own.rest.0.0.0.0.0.0.0.0.0.0.0.0.0.0.0.0.0.0.0.0.0.0.0.0.1, (inl c.in_default.in_default-own.rest.0.0.0.0.0.0.0.0.0.0.0.0.0.0.0.0.0.0.0.0.0.0.0.1, (inl c.in_default.in_default-own.rest.0.0.0.0.0.0.0.0.0.0.0.0.0.0.0.0.0.0.0.0.0.0.1, (inl c.in_default.in_default-own.rest.0.0.0.0.0.0.0.0.0.0.0.0.0.0.0.0.0.0.0.0.0.1, (inl c.in_default.in_default-own.rest.0.0.0.0.0.0.0.0.0.0.0.0.0.0.0.0.0.0.0.0.1, (inl c.in_default.in_default-own.rest.0.0.0.0.0.0.0.0.0.0.0.0.0.0.0.0.0.0.0.1, (inl c.in_default.in_default-own.rest.0.0.0.0.0.0.0.0.0.0.0.0.0.0.0.0.0.0.1, (inr refl, (inr refl, (inr refl, (inr refl, (inr refl, (inr refl, (inr refl, (inl c.in_default.in_default-own.rest.0.0.0.0.0.0.0.0.0.0.0.0.0.0.0.0.0.1, (inl c.in_default.in_default-own.rest.0.0.0.0.0.0.0.0.0.0.0.0.0.0.0.0.1, (inl c.in_default.in_default-own.rest.0.0.0.0.0.0.0.0.0.0.0.0.0.0.0.1, (inl c.in_default.in_default-own.rest.0.0.0.0.0.0.0.0.0.0.0.0.0.0.1, (inl c.in_default.in_default-own.rest.0.0.0.0.0.0.0.0.0.0.0.0.0.1, (inl c.in_default.in_default-own.rest.0.0.0.0.0.0.0.0.0.0.0.0.1, (inl c.in_default.in_default-own.rest.0.0.0.0.0.0.0.0.0.0.0.1, (inl c.in_default.in_default-own.rest.0.0.0.0.0.0.0.0.0.0.1, (inl c.in_default.in_default-own.rest.0.0.0.0.0.0.0.0.0.1, (inl c.in_default.in_default-own.rest.0.0.0.0.0.0.0.0.1, (inl c.in_default.in_default-own.rest.0.0.0.0.0.0.0.1, (inl c.in_default.in_default-own.rest.0.0.0.0.0.0.1, (inl c.in_default.in_default-own.rest.0.0.0.0.0.1, (inl c.in_default.in_default-own.rest.0.0.0.0.1, (inl c.in_default.in_default-own.rest.0.0.0.1, (inl c.in_default.in_default-own.rest.0.0.1, (inl c.in_default.in_default-own.rest.0.1, (inl c.in_default.in_default-own.rest.1, tt))))))))))))))))))))))))))))))))))))) (silent event_bytes c.args.log.now)
 
-pub put-part-spec : {M : Type 1} → statement M
-put-part-spec =
+pub put_part_spec : {M : Type 1} → statement M
+put_part_spec =
     tie.close
     (tie.spec
-    reg-in-requires
-    reg-in-requires-2
-    reg-in-requires-3
-    put-plain-requires
-    put-plain-requires-2
-    reg-in-requires-4
-    put-plain-requires-3
-    fourth-of-requires
-    put-plain-requires-4
-    reg-in-requires-5
-    mask-in-requires
-    put-masked-requires
-    reg-in-requires-6
-    mask-in-requires-2
-    put-masked-requires-2
-    reg-in-requires-7
-    mask-in-requires-3
-    put-masked-requires-3
-    mask-in-requires-4
-    put-masked-requires-4
-    mask-in-requires-5
-    put-masked-requires-5
-    reg-in-requires-8
-    mask-in-requires-6
-    put-masked-requires-6
-    put-deref-requires
-    mask-in-requires-7
-    put-deref-requires-2
-    put-deref-requires-3
-    put-deref-requires-4
-    low-requires
-    put-deref-requires-5
-    low-requires-2
-    put-deref-requires-6
-    disp-in-requires
-    sign-extended-requires
-    plus-requires
-    put-deref-requires-7
-    mask-in-requires-8
-    disp-in-requires-2
-    sign-extended-requires-2
-    plus-requires-2
-    put-deref-requires-8
-    put-deref-requires-9
-    mask-in-requires-9
-    put-deref-requires-10
-    disp-in-requires-3
-    sign-extended-requires-3
-    plus-requires-3
-    put-deref-requires-11
-    mask-in-requires-10
-    disp-in-requires-4
-    sign-extended-requires-4
-    plus-requires-4
-    put-deref-requires-12
-    sum-requires
-    put-indexed-requires
-    mask-in-requires-11
-    sum-requires-2
-    put-indexed-requires-2
-    sum-requires-3
-    disp-in-requires-5
-    sign-extended-requires-5
-    plus-requires-5
-    put-indexed-requires-3
-    mask-in-requires-12
-    sum-requires-4
-    disp-in-requires-6
-    sign-extended-requires-6
-    plus-requires-6
-    put-indexed-requires-4
-    disp-in-requires-7
-    plus-requires-7
-    put-access-requires
-    disp-in-requires-8
-    plus-requires-8
-    put-access-requires-2
+    reg_in_requires
+    reg_in_requires_2
+    reg_in_requires_3
+    put_plain_requires
+    put_plain_requires_2
+    reg_in_requires_4
+    put_plain_requires_3
+    fourth_of_requires
+    put_plain_requires_4
+    reg_in_requires_5
+    mask_in_requires
+    put_masked_requires
+    reg_in_requires_6
+    mask_in_requires_2
+    put_masked_requires_2
+    reg_in_requires_7
+    mask_in_requires_3
+    put_masked_requires_3
+    mask_in_requires_4
+    put_masked_requires_4
+    mask_in_requires_5
+    put_masked_requires_5
+    reg_in_requires_8
+    mask_in_requires_6
+    put_masked_requires_6
+    put_deref_requires
+    mask_in_requires_7
+    put_deref_requires_2
+    put_deref_requires_3
+    put_deref_requires_4
+    low_requires
+    put_deref_requires_5
+    low_requires_2
+    put_deref_requires_6
+    disp_in_requires
+    sign_extended_requires
+    plus_requires
+    put_deref_requires_7
+    mask_in_requires_8
+    disp_in_requires_2
+    sign_extended_requires_2
+    plus_requires_2
+    put_deref_requires_8
+    put_deref_requires_9
+    mask_in_requires_9
+    put_deref_requires_10
+    disp_in_requires_3
+    sign_extended_requires_3
+    plus_requires_3
+    put_deref_requires_11
+    mask_in_requires_10
+    disp_in_requires_4
+    sign_extended_requires_4
+    plus_requires_4
+    put_deref_requires_12
+    sum_requires
+    put_indexed_requires
+    mask_in_requires_11
+    sum_requires_2
+    put_indexed_requires_2
+    sum_requires_3
+    disp_in_requires_5
+    sign_extended_requires_5
+    plus_requires_5
+    put_indexed_requires_3
+    mask_in_requires_12
+    sum_requires_4
+    disp_in_requires_6
+    sign_extended_requires_6
+    plus_requires_6
+    put_indexed_requires_4
+    disp_in_requires_7
+    plus_requires_7
+    put_access_requires
+    disp_in_requires_8
+    plus_requires_8
+    put_access_requires_2
     same_length
     returns
-    same-length-2
-    returns-2
-    same-length-3
-    returns-3
-    same-length-4
-    returns-4
-    same-length-5
-    returns-5
-    same-length-6
-    returns-6
-    same-length-7
-    returns-7
-    same-length-8
-    returns-8
-    same-length-9
-    returns-9
-    same-length-10
-    returns-10
-    same-length-11
-    returns-11
-    same-length-12
-    returns-12
-    same-length-13
-    returns-13
-    same-length-14
-    returns-14
-    same-length-15
-    returns-15
-    same-length-16
-    returns-16
-    same-length-17
-    returns-17
-    same-length-18
-    returns-18
-    same-length-19
-    returns-19
-    same-length-20
-    returns-20
-    same-length-21
-    returns-21
-    same-length-22
-    returns-22
-    same-length-23
-    returns-23
-    same-length-24
-    returns-24
-    same-length-25
-    returns-25
-    same-length-26
-    returns-26
-    same-length-27
-    returns-27
-    same-length-28
-    returns-28
-    returns-29)
+    same_length_2
+    returns_2
+    same_length_3
+    returns_3
+    same_length_4
+    returns_4
+    same_length_5
+    returns_5
+    same_length_6
+    returns_6
+    same_length_7
+    returns_7
+    same_length_8
+    returns_8
+    same_length_9
+    returns_9
+    same_length_10
+    returns_10
+    same_length_11
+    returns_11
+    same_length_12
+    returns_12
+    same_length_13
+    returns_13
+    same_length_14
+    returns_14
+    same_length_15
+    returns_15
+    same_length_16
+    returns_16
+    same_length_17
+    returns_17
+    same_length_18
+    returns_18
+    same_length_19
+    returns_19
+    same_length_20
+    returns_20
+    same_length_21
+    returns_21
+    same_length_22
+    returns_22
+    same_length_23
+    returns_23
+    same_length_24
+    returns_24
+    same_length_25
+    returns_25
+    same_length_26
+    returns_26
+    same_length_27
+    returns_27
+    same_length_28
+    returns_28
+    returns_29)

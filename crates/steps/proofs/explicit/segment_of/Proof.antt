@@ -4,27 +4,27 @@ use borrow.Author.Rules.{rules}
 use Rattle.steps.proofs.explicit.segment_of.Statement.{statement}
 use Rattle.steps.proofs.explicit.segment_of.Tie as tie
 
-is-stopped-requires : tie.Need-is-stopped-requires
-is-stopped-requires c κs = search rules
+is_stopped_requires : tie.Need-is_stopped-requires
+is_stopped_requires c κs = search rules
 
-returns : tie.Need-returns
+returns : tie.Need-returns-then-is_stopped
 unfolding part_segment
-returns c = rw (sym c.before.is-stopped.ensures ∙ c.if1.true)
+returns c = rw (sym c.is_stopped.ensures ∙ c.if-is_stopped.true)
 
-takes-base-requires : tie.Need-takes-base-requires
-takes-base-requires c κs = search rules
+takes_base_requires : tie.Need-takes_base-requires
+takes_base_requires c κs = search rules
 
-segment-in-requires : tie.Need-segment-in-requires
-segment-in-requires c κs = search rules
+segment_in_requires : tie.Need-segment_in-requires
+segment_in_requires c κs = search rules
 
-returns-2 : tie.Need-returns-2
+returns_2 : tie.Need-returns-then-takes_base
 unfolding part_segment
-returns-2 c = rw (sym c.before.before.before.before.is-stopped.ensures ∙ c.before.before.before.if1.false, sym c.before.before.takes-base.ensures ∙ c.before.if2.true) c.segment-in.ensures
+returns_2 c = rw (sym c.is_stopped.ensures ∙ c.if-is_stopped.false, sym c.takes_base.ensures ∙ c.if-takes_base.true) c.segment_in.ensures
 
-returns-3 : tie.Need-returns-3
+returns_3 : tie.Need-returns-else-takes_base
 unfolding part_segment
-returns-3 c = rw (sym c.before.before.before.is-stopped.ensures ∙ c.before.before.if1.false, sym c.before.takes-base.ensures ∙ c.if2.false)
+returns_3 c = rw (sym c.is_stopped.ensures ∙ c.if-is_stopped.false, sym c.takes_base.ensures ∙ c.if-takes_base.false)
 
-pub segment-of-spec : {M : Type 1} → statement M
-segment-of-spec =
-    tie.close (tie.spec is-stopped-requires returns takes-base-requires segment-in-requires returns-2 returns-3)
+pub segment_of_spec : {M : Type 1} → statement M
+segment_of_spec =
+    tie.close (tie.spec is_stopped_requires returns takes_base_requires segment_in_requires returns_2 returns_3)

@@ -3,13 +3,13 @@ use Rattle.steps.specs.Parts.{way_of}
 use Rattle.steps.proofs.explicit.way_of.Statement.{statement}
 use Rattle.steps.proofs.explicit.way_of.Tie as tie
 
-returns : tie.Need-returns
+returns : tie.Need-returns-then-part-eq0
 unfolding way_of
-returns c = rw (eq-eqb _ _ c.if1.true)
+returns c = rw (eq-eqb _ _ c.if-part-eq0.true)
 
-returns-2 : tie.Need-returns-2
+returns_2 : tie.Need-returns-else-part-eq0
 unfolding way_of
-returns-2 c = rw (ne_eqb _ _ c.if1.false)
+returns_2 c = rw (ne_eqb _ _ c.if-part-eq0.false)
 
-pub way-of-spec : {M : Type 1} → statement M
-way-of-spec = tie.close (tie.spec returns returns-2)
+pub way_of_spec : {M : Type 1} → statement M
+way_of_spec = tie.close (tie.spec returns returns_2)

@@ -8,34 +8,34 @@ use borrow.Author.Rules.{rules}
 use Rattle.steps.proofs.log.put_flags_write.Statement.{statement}
 use Rattle.steps.proofs.log.put_flags_write.Tie as tie
 
-write-is : (c : tie.After-is-write) → c.is-write.result ≡ writing (flags_access c.before.before.before.before.args.x.digest)
-write-is c = c.is-write.ensures ∙ ap writing (flags_number c.before.before.before.before.args.x.digest c.before.flags-access.ensures)
+write_is : (c : tie.After-is_write) → c.is_write.result ≡ writing (flags_access c.args.x.digest)
+write_is c = c.is_write.ensures ∙ ap writing (flags_number c.args.x.digest c.flags_access.ensures)
 
-flags-access-requires : tie.Need-flags-access-requires
-flags-access-requires c κs = search rules
+flags_access_requires : tie.Need-flags_access-requires
+flags_access_requires c κs = search rules
 
-is-write-requires : tie.Need-is-write-requires
-is-write-requires c κs = search rules
+is_write_requires : tie.Need-is_write-requires
+is_write_requires c κs = search rules
 
-put-register-requires : tie.Need-put-register-requires
-put-register-requires c κs = rw (sym (write-is c.before.before) ∙ c.before.if1.true) at c.before.before.before.before.before.before.requires
+put_register_requires : tie.Need-put_register-requires
+put_register_requires c κs = rw (sym (write_is c.before.before) ∙ c.if-is_write.true) at c.requires
 
-same_length : tie.Need-same-length
+same_length : tie.Need-shape_of-log
 same_length c = search rules
 
-returns : tie.Need-returns
-returns c = rw (sym (write-is c.before.before.before.before.before) ∙ c.before.before.before.before.if1.true) c.before.before.put-register.ensures
+returns : tie.Need-returns-then-is_write
+returns c = rw (sym (write_is c.before.before.before.before.before) ∙ c.if-is_write.true) c.put_register.ensures
 
-returns-2 : tie.Need-returns-2
-returns-2 c = rw (sym (write-is c.before) ∙ c.if1.false) (silent event_bytes c.before.before.before.before.before.args.log.now)
+returns_2 : tie.Need-returns-else-is_write
+returns_2 c = rw (sym (write_is c.before) ∙ c.if-is_write.false) (silent event_bytes c.args.log.now)
 
-pub put-flags-write-spec : {M : Type 1} → statement M
-put-flags-write-spec =
+pub put_flags_write_spec : {M : Type 1} → statement M
+put_flags_write_spec =
     tie.close
     (tie.spec
-    flags-access-requires
-    is-write-requires
-    put-register-requires
+    flags_access_requires
+    is_write_requires
+    put_register_requires
     same_length
     returns
-    returns-2)
+    returns_2)

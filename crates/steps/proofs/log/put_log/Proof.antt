@@ -32,88 +32,88 @@ room : (s : tie.Start) → size event_bytes (every s) ≤ length s.args.log.now
 unfolding log_events
 room s = s.requires.1
 
-one : (c : tie.After-put-list) → let s = c.before.before.before.before in
-    Going event_bytes (every s) (seg1 s ∷ seg2 s ∷ seg3 s ∷ []) s.args.log.now c.put-list.new.0 c.put-list.result
+one : (c : tie.After-put_list-a) → let s = c.before.before.before.before in
+    Going event_bytes (every s) (seg1 s ∷ seg2 s ∷ seg3 s ∷ []) s.args.log.now c.put_list-a.new.log c.put_list-a.result
 unfolding log_events
-one c = let s = c.before.before.before.before in first {seg = seg0 s} (seg1 s ∷ seg2 s ∷ seg3 s ∷ []) c.put-list.ensures (room s) s.well-formed.0.0
+one c = let s = c.before.before.before.before in first {seg = seg0 s} (seg1 s ∷ seg2 s ∷ seg3 s ∷ []) c.put_list-a.ensures (room s) s.well_formed.0.0
 
-two : (c : tie.After-put-flags-read) → let s = c.before.before.before.before.before.before.before.before in
-    Going event_bytes (every s) (seg2 s ∷ seg3 s ∷ []) s.args.log.now (back c.before.before.before.before.put-list.new.0 c.before.before.before.before.put-list.result c.put-flags-read.new.0) (c.before.before.before.before.put-list.result + c.put-flags-read.result)
+two : (c : tie.After-put_flags_read) → let s = c.before.before.before.before.before.before.before.before in
+    Going event_bytes (every s) (seg2 s ∷ seg3 s ∷ []) s.args.log.now (back c.put_list-a.new.log c.put_list-a.result c.put_flags_read.new.log) (c.put_list-a.result + c.put_flags_read.result)
 unfolding log_events
-two c = next (one c.before.before.before.before) c.put-flags-read.ensures
+two c = next (one c.before.before.before.before) c.put_flags_read.ensures
 
-three : (c : tie.After-put-flags-write) → let s = c.before.before.before.before.before.before.before.before.before.before.before.before in
-    Going event_bytes (every s) (seg3 s ∷ []) s.args.log.now (back (back c.before.before.before.before.before.before.before.before.put-list.new.0 c.before.before.before.before.before.before.before.before.put-list.result c.before.before.before.before.put-flags-read.new.0) (c.before.before.before.before.before.before.before.before.put-list.result + c.before.before.before.before.put-flags-read.result) c.put-flags-write.new.0) ((c.before.before.before.before.before.before.before.before.put-list.result + c.before.before.before.before.put-flags-read.result) + c.put-flags-write.result)
+three : (c : tie.After-put_flags_write) → let s = c.before.before.before.before.before.before.before.before.before.before.before.before in
+    Going event_bytes (every s) (seg3 s ∷ []) s.args.log.now (back (back c.put_list-a.new.log c.put_list-a.result c.put_flags_read.new.log) (c.put_list-a.result + c.put_flags_read.result) c.put_flags_write.new.log) ((c.put_list-a.result + c.put_flags_read.result) + c.put_flags_write.result)
 unfolding log_events
-three c = next (two c.before.before.before.before) c.put-flags-write.ensures
+three c = next (two c.before.before.before.before) c.put_flags_write.ensures
 
-four : (c : tie.After-put-operands) → let s = c.before.before.before.before.before.before.before.before.before.before.before.before.before.before.before.before in
-    Going event_bytes (every s) ([]) s.args.log.now (back (back (back c.before.before.before.before.before.before.before.before.before.before.before.before.put-list.new.0 c.before.before.before.before.before.before.before.before.before.before.before.before.put-list.result c.before.before.before.before.before.before.before.before.put-flags-read.new.0) (c.before.before.before.before.before.before.before.before.before.before.before.before.put-list.result + c.before.before.before.before.before.before.before.before.put-flags-read.result) c.before.before.before.before.put-flags-write.new.0) ((c.before.before.before.before.before.before.before.before.before.before.before.before.put-list.result + c.before.before.before.before.before.before.before.before.put-flags-read.result) + c.before.before.before.before.put-flags-write.result) c.put-operands.new.0) (((c.before.before.before.before.before.before.before.before.before.before.before.before.put-list.result + c.before.before.before.before.before.before.before.before.put-flags-read.result) + c.before.before.before.before.put-flags-write.result) + c.put-operands.result)
+four : (c : tie.After-put_operands) → let s = c.before.before.before.before.before.before.before.before.before.before.before.before.before.before.before.before in
+    Going event_bytes (every s) ([]) s.args.log.now (back (back (back c.put_list-a.new.log c.put_list-a.result c.put_flags_read.new.log) (c.put_list-a.result + c.put_flags_read.result) c.put_flags_write.new.log) ((c.put_list-a.result + c.put_flags_read.result) + c.put_flags_write.result) c.put_operands.new.log) (((c.put_list-a.result + c.put_flags_read.result) + c.put_flags_write.result) + c.put_operands.result)
 unfolding log_events
-four c = next (three c.before.before.before.before) c.put-operands.ensures
+four c = next (three c.before.before.before.before) c.put_operands.ensures
 
-put-list-requires : tie.Need-put-list-requires
+put_list_requires : tie.Need-put_list-a-requires
 unfolding log_events
-put-list-requires c κs = let s = c.before.before.before in fits_first event_bytes (seg0 s) (seg1 s ∷ seg2 s ∷ seg3 s ∷ []) (room s)
+put_list_requires c κs = let s = c.before.before.before in fits_first event_bytes (seg0 s) (seg1 s ∷ seg2 s ∷ seg3 s ∷ []) (room s)
 
-sub-put-flags-read : tie.Need-overflow-sub-put-flags-read
+sub_put_flags_read : tie.Need-slice_bounds-put_flags_read-count
 unfolding log_events
-sub-put-flags-read c = inside (one c.before.before)
+sub_put_flags_read c = inside (one c.before.before)
 
-part-put-flags-read-start : tie.Need-slice-bounds-put-flags-read-start
+part_put_flags_read_start : tie.Need-slice_bounds-put_flags_read-start
 unfolding log_events
-part-put-flags-read-start c = inside (one c.before.before)
+part_put_flags_read_start c = inside (one c.before.before)
 
-part-put-flags-read-end : tie.Need-slice-bounds-put-flags-read-end
-part-put-flags-read-end c = search rules
+part_put_flags_read_end : tie.Need-slice_bounds-put_flags_read-end
+part_put_flags_read_end c = search rules
 
-put-flags-read-requires : tie.Need-put-flags-read-requires
+put_flags_read_requires : tie.Need-put_flags_read-requires
 unfolding log_events
-put-flags-read-requires c κs = fits (one c.before.before.before)
+put_flags_read_requires c κs = fits (one c.before.before.before)
 
-add-c : tie.Need-overflow-add-c
+add_c : tie.Need-overflow_add-c
 unfolding log_events
-add-c c = ends (one c.before.before.before.before.before.before) c.before.before.put-flags-read.ensures
+add_c c = ends (one c.before.before.before.before.before.before) c.put_flags_read.ensures
 
-sub-put-flags-write : tie.Need-overflow-sub-put-flags-write
+sub_put_flags_write : tie.Need-slice_bounds-put_flags_write-count
 unfolding log_events
-sub-put-flags-write c = inside (two c.before.before)
+sub_put_flags_write c = inside (two c.before.before)
 
-part-put-flags-write-start : tie.Need-slice-bounds-put-flags-write-start
+part_put_flags_write_start : tie.Need-slice_bounds-put_flags_write-start
 unfolding log_events
-part-put-flags-write-start c = inside (two c.before.before)
+part_put_flags_write_start c = inside (two c.before.before)
 
-part-put-flags-write-end : tie.Need-slice-bounds-put-flags-write-end
-part-put-flags-write-end c = search rules
+part_put_flags_write_end : tie.Need-slice_bounds-put_flags_write-end
+part_put_flags_write_end c = search rules
 
-put-flags-write-requires : tie.Need-put-flags-write-requires
+put_flags_write_requires : tie.Need-put_flags_write-requires
 unfolding log_events
-put-flags-write-requires c κs = fits (two c.before.before.before)
+put_flags_write_requires c κs = fits (two c.before.before.before)
 
-add-d : tie.Need-overflow-add-d
+add_d : tie.Need-overflow_add-d
 unfolding log_events
-add-d c = ends (two c.before.before.before.before.before.before) c.before.before.put-flags-write.ensures
+add_d c = ends (two c.before.before.before.before.before.before) c.put_flags_write.ensures
 
-sub-put-operands : tie.Need-overflow-sub-put-operands
+sub_put_operands : tie.Need-slice_bounds-put_operands-count
 unfolding log_events
-sub-put-operands c = inside (three c.before.before)
+sub_put_operands c = inside (three c.before.before)
 
-part-put-operands-start : tie.Need-slice-bounds-put-operands-start
+part_put_operands_start : tie.Need-slice_bounds-put_operands-start
 unfolding log_events
-part-put-operands-start c = inside (three c.before.before)
+part_put_operands_start c = inside (three c.before.before)
 
-part-put-operands-end : tie.Need-slice-bounds-put-operands-end
-part-put-operands-end c = search rules
+part_put_operands_end : tie.Need-slice_bounds-put_operands-end
+part_put_operands_end c = search rules
 
-put-operands-requires : tie.Need-put-operands-requires
+put_operands_requires : tie.Need-put_operands-requires
 unfolding log_events
-put-operands-requires c κs = (c.before.before.before.before.before.before.before.before.before.before.before.before.before.before.before.requires.0, fits (three c.before.before.before))
+put_operands_requires c κs = (c.requires.0, fits (three c.before.before.before))
 
-add-result : tie.Need-overflow-add-result
+add_result : tie.Need-overflow_add-result
 unfolding log_events
-add-result c = ends (three c.before.before.before.before.before.before) c.before.before.put-operands.ensures
+add_result c = ends (three c.before.before.before.before.before.before) c.put_operands.ensures
 
-same_length : tie.Need-same-length
+same_length : tie.Need-shape_of-log
 unfolding log_events
 same_length c = keeps (four c.before.before)
 
@@ -121,25 +121,25 @@ returns : tie.Need-returns
 unfolding log_events
 returns c = whole (four c.before.before)
 
-pub put-log-spec : {M : Type 1} → statement M
-put-log-spec =
+pub put_log_spec : {M : Type 1} → statement M
+put_log_spec =
     tie.close
     (tie.spec
-    put-list-requires
-    sub-put-flags-read
-    part-put-flags-read-start
-    part-put-flags-read-end
-    put-flags-read-requires
-    add-c
-    sub-put-flags-write
-    part-put-flags-write-start
-    part-put-flags-write-end
-    put-flags-write-requires
-    add-d
-    sub-put-operands
-    part-put-operands-start
-    part-put-operands-end
-    put-operands-requires
-    add-result
+    put_list_requires
+    sub_put_flags_read
+    part_put_flags_read_start
+    part_put_flags_read_end
+    put_flags_read_requires
+    add_c
+    sub_put_flags_write
+    part_put_flags_write_start
+    part_put_flags_write_end
+    put_flags_write_requires
+    add_d
+    sub_put_operands
+    part_put_operands_start
+    part_put_operands_end
+    put_operands_requires
+    add_result
     same_length
     returns)
