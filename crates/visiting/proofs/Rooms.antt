@@ -1,5 +1,5 @@
 -- The same visit at another place: in the part of a buffer that is lent, and aside. Assumes nothing.
-use Prim.Native.Nat.{ℕ, ◌+◌, ◌≤◌, zero-le}
+use Prim.Native.Nat.{ℕ, ◌+◌, ◌-◌, ◌≤◌, zero-le}
 use native.Mathlib.Nat.{zero-add, le_refl}
 use native.Mathlib.Omega.{arith}
 use mathlib.Core.Path.{◌≡◌, refl, sym, ap, subst, ◌∙◌}
@@ -7,6 +7,7 @@ use mathlib.Core.Bool.{Bool, true, false, cond, not}
 use mathlib.Core.List.{List, [], ◌∷◌, ◌++◌, append_assoc}
 use lib.Dec.{eqb, lit≤}
 use lib.ListN.{length, take, drop, length-take, take-append-drop}
+use borrow.Rule.Slice.PartMut.{put_mid}
 use lib.Seq.{drop-drop, take_all, take_at}
 use borrow.Author.Tests.{ne_eqb, eqb-true, eqb-false}
 use Rattle.laws.proofs.Room.{starts_inside, has_left, has_room, room_for_less}
@@ -180,12 +181,11 @@ module _ (bad : Bool) (b : List ℕ) (f : RegisterFile) where
   unfolding visit_by
   within_is aside e = subst (λ (v : Answer × List ℕ). Within v.0 most_bytes) (sym e) (within (refusal_of bad b f aside 0) (record_of b).opcode aside)
 
-over_part : (bs old : List ℕ) → take (length bs) bs ++ drop (length bs) old ≡ splice old 0 bs
-unfolding splice
-over_part bs old = rw (take_all (length bs) bs (le_refl (length bs)), zero-add (length bs))
-
 pub took : (n : ℕ) (l : List ℕ) → n ≤ length l → n ≡ length (take n l)
 took n l h = simp length-take (omega arith)
+
+n_left : (start n : ℕ) → start + n - start ≡ n
+n_left start n = omega arith
 
 -- what was written aside has no room, or is laid
 module _ {answer : Answer} {n : ℕ} (e : answer ≡ Done n) (aside buffer : List ℕ) (start : ℕ) where
@@ -197,10 +197,7 @@ module _ {answer : Answer} {n : ℕ} (e : answer ≡ Done n) (aside buffer : Lis
   same p = rw p
 
   pub laid_here :
-      {ys : List ℕ} → lacks_room n start (length buffer) ≡ false
-      → ys ≡ take (length (take n aside)) (take n aside) ++ drop (length (take n aside)) (part buffer start)
-      → ◌≡◌ {A = Answer × List ℕ} (Done n, back buffer start ys) (laid_out answer aside buffer start)
-  unfolding laid_out no_room
-  laid_here {ys} h q =
-      rw (e, h)
-      (same (ap (back buffer start) (q ∙ over_part (take n aside) (part buffer start)) ∙ spliced_part buffer start (take n aside)))
+      {ys : List ℕ} → lacks_room n start (length buffer) ≡ false → n ≤ length aside → ys ≡ take n aside
+      → ◌≡◌ {A = Answer × List ℕ} (Done n, put_mid start (start + n - start) buffer ys) (laid_out answer aside buffer start)
+  unfolding laid_out no_room splice
+  laid_here {ys} h w q = rw (e, h, sym (took n aside w)) (same (ap (put_mid start (start + n - start) buffer) q ∙ rw (n_left start n, drop-drop n start buffer) (sym (append_assoc (take start buffer) (take n aside) (drop (start + n) buffer)))))

@@ -64,7 +64,7 @@ fn lay(answer: Answer, aside: &[u8], log: &mut [u8], start: usize) -> Answer
             if laws::lacks_room(n, start, log.len()) {
                 return Answer::Short(n);
             }
-            bytes::copy(&aside[..n], &mut log[start..]);
+            log[start..start + n].copy_from_slice(&aside[..n]);
             Answer::Done(n)
         }
         Answer::Refused(number) => Answer::Refused(number),

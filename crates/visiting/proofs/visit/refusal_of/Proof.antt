@@ -5,39 +5,39 @@ use borrow.Author.Rules.{rules}
 use Rattle.visiting.proofs.visit.refusal_of.Statement.{statement}
 use Rattle.visiting.proofs.visit.refusal_of.Tie as tie
 
-is-complex-requires : tie.Need-is-complex-requires
-is-complex-requires c κs = search rules
+is_complex_requires : tie.Need-is_complex-requires
+is_complex_requires c κs = search rules
 
-returns : tie.Need-returns
+returns : tie.Need-returns-then-is_complex
 unfolding first_refusal first_of
-returns c = rw (sym c.before.is_complex_lem.ensures ∙ c.if1.true)
+returns c = rw (sym c.is_complex.ensures ∙ c.if-is_complex.true)
 
-is-nameless-requires : tie.Need-is-nameless-requires
-is-nameless-requires c κs = search rules
+is_nameless_requires : tie.Need-is_nameless-requires
+is_nameless_requires c κs = search rules
 
-returns-2 : tie.Need-returns-2
+returns_2 : tie.Need-returns-then-is_nameless
 unfolding first_refusal first_of
-returns-2 c = rw (sym c.before.before.before.is_complex_lem.ensures ∙ c.before.before.if1.false, sym c.before.is-nameless.ensures ∙ c.if2.true)
+returns_2 c = rw (sym c.is_complex.ensures ∙ c.if-is_complex.false, sym c.is_nameless.ensures ∙ c.if-is_nameless.true)
 
-is-sizeless-requires : tie.Need-is-sizeless-requires
-is-sizeless-requires c κs = search rules
+is_sizeless_requires : tie.Need-is_sizeless-requires
+is_sizeless_requires c κs = search rules
 
-returns-3 : tie.Need-returns-3
+returns_3 : tie.Need-returns-then-is_sizeless
 unfolding first_refusal first_of
-returns-3 c = rw (sym c.before.before.before.before.before.is_complex_lem.ensures ∙ c.before.before.before.before.if1.false, sym c.before.before.before.is-nameless.ensures ∙ c.before.before.if2.false, sym c.before.is-sizeless.ensures ∙ c.if3.true)
+returns_3 c = rw (sym c.is_complex.ensures ∙ c.if-is_complex.false, sym c.is_nameless.ensures ∙ c.if-is_nameless.false, sym c.is_sizeless.ensures ∙ c.if-is_sizeless.true)
 
-returns-4 : tie.Need-returns-4
+returns_4 : tie.Need-returns
 unfolding first_refusal first_of
-returns-4 c = rw (sym c.before.before.before.before.before.is_complex_lem.ensures ∙ c.before.before.before.before.if1.false, sym c.before.before.before.is-nameless.ensures ∙ c.before.before.if2.false, sym c.before.is-sizeless.ensures ∙ c.if3.false)
+returns_4 c = rw (sym c.is_complex.ensures ∙ c.if-is_complex.false, sym c.is_nameless.ensures ∙ c.if-is_nameless.false, sym c.is_sizeless.ensures ∙ c.if-is_sizeless.false)
 
-pub refusal-of-spec : {M : Type 1} → statement M
-refusal-of-spec =
+pub refusal_of_spec : {M : Type 1} → statement M
+refusal_of_spec =
     tie.close
     (tie.spec
-    is-complex-requires
+    is_complex_requires
     returns
-    is-nameless-requires
-    returns-2
-    is-sizeless-requires
-    returns-3
-    returns-4)
+    is_nameless_requires
+    returns_2
+    is_sizeless_requires
+    returns_3
+    returns_4)

@@ -9,69 +9,69 @@ use borrow.Author.Rules.{rules}
 use Rattle.visiting.proofs.visit.visit_record.Statement.{statement}
 use Rattle.visiting.proofs.visit.visit_record.Tie as tie
 
-plain-requires : tie.Need-plain-requires
-plain-requires c κs = record_long c.before.before.before.args.b.now (passed c.before.before.before.args.b.now c.before.before.before.requires.0).is
+plain_requires : tie.Need-plain-plain-requires
+plain_requires c κs = record_long c.args.b.now (passed c.args.b.now c.requires.0).is
 
-completed-requires : tie.Need-completed-requires
-completed-requires c κs = record_long c.before.before.before.before.args.b.now (passed c.before.before.before.before.args.b.now c.before.before.before.before.requires.0).is
+completed_requires : tie.Need-completed-read-requires
+completed_requires c κs = record_long c.args.b.now (passed c.args.b.now c.requires.0).is
 
-fixed-up-requires : tie.Need-fixed-up-requires
-fixed-up-requires c κs = search rules
+fixed_up_requires : tie.Need-fixed_up-x-requires
+fixed_up_requires c κs = search rules
 
-refusal-of-requires : tie.Need-refusal-of-requires
-refusal-of-requires c κs = search rules
+refusal_of_requires : tie.Need-refusal_of-number-requires
+refusal_of_requires c κs = search rules
 
-parse-requires : tie.Need-parse-requires
-parse-requires c κs = file_long c.before.before.before.before.before.before.before.before.args.file.now c.before.before.before.before.before.before.before.before.requires.1
+parse_requires : tie.Need-parse-f-requires
+parse_requires c κs = file_long c.args.file.now c.requires.1
 
-resolve-requires : tie.Need-resolve-requires
-resolve-requires c κs = search rules
+resolve_requires : tie.Need-resolve-at-requires
+resolve_requires c κs = search rules
 
-put-log-requires : tie.Need-put-log-requires
-put-log-requires c κs =
-    let b = c.before.before.before.before.before.before.before.before.before.before.before.args.b.now in (
-      lent_fixed b (record_long b (passed b c.before.before.before.before.before.before.before.before.before.before.before.requires.0).is).0
-          (rw c.before.before.before.before.before.before.before.plain.ensures at c.before.before.before.before.before.before.completed.ensures ∙ halves b) c.before.before.before.before.before.fixed-up.ensures,
-      rw (c.before.resolve.ensures, c.before.before.parse.ensures)
-          (fits c.before.before.before.before.before.fixed-up.result (file_of c.before.before.before.before.before.before.before.before.before.before.before.args.file.now) c.before.before.before.before.before.before.before.before.before.before.before.requires.2),
+put_log_requires : tie.Need-put_log-requires
+put_log_requires c κs =
+    let b = c.args.b.now in (
+      lent_fixed b (record_long b (passed b c.requires.0).is).0
+          (rw c.plain-plain.ensures at c.completed-read.ensures ∙ halves b) c.fixed_up-x.ensures,
+      rw (c.resolve-at.ensures, c.parse-f.ensures)
+          (fits c.fixed_up-x.result (file_of c.args.file.now) c.requires.2),
     )
 
-same_length : tie.Need-same-length
+same_length : tie.Need-shape_of-log
 same_length c = search rules
 
-returns : tie.Need-returns
+returns : tie.Need-returns-in-0
 returns c =
-    done c.before.before.before.before.before.before.before.before.fixed-up.result (file_of c.before.before.before.before.before.before.before.before.before.before.before.before.before.before.args.file.now) c.before.before.before.before.before.before.before.before.before.before.before.before.before.before.args.log.now c.before.before.before.before.before.before.before.before.before.before.before.before.before.before.requires.2 c.before.before.before.before.before.before.before.refusal-of.ensures c.before.before.before.before.before.before.match.keys1 (rw (c.before.before.before.before.resolve.ensures, c.before.before.before.before.before.parse.ensures) at c.before.before.put-log.ensures)
-    ∙ rw c.before.before.before.before.before.before.before.before.fixed-up.ensures
-    (visited c.before.before.before.before.before.before.before.before.before.before.before.before.before.before.args.b.now c.before.before.before.before.before.before.before.before.before.before.before.before.before.before.args.log.now 0 (file_of c.before.before.before.before.before.before.before.before.before.before.before.before.before.before.args.file.now) c.before.before.before.before.before.before.before.before.before.before.before.before.before.before.requires.0
-    (rw c.before.before.before.before.before.before.before.before.before.before.plain.ensures at c.before.before.before.before.before.before.before.before.before.completed.ensures ∙ halves c.before.before.before.before.before.before.before.before.before.before.before.before.before.before.args.b.now))
+    done c.fixed_up-x.result (file_of c.args.file.now) c.args.log.now c.requires.2 c.refusal_of-number.ensures c.in-0.is (rw (c.resolve-at.ensures, c.parse-f.ensures) at c.put_log.ensures)
+    ∙ rw c.fixed_up-x.ensures
+    (visited c.args.b.now c.args.log.now 0 (file_of c.args.file.now) c.requires.0
+    (rw c.plain-plain.ensures at c.completed-read.ensures ∙ halves c.args.b.now))
 
-returns-2 : tie.Need-returns-2
-returns-2 c =
-    is_complex_lem c.before.before.fixed-up.result (file_of c.before.before.before.before.before.before.before.before.args.file.now) c.before.before.before.before.before.before.before.before.args.log.now c.before.before.before.before.before.before.before.before.requires.2 c.before.refusal-of.ensures c.match.keys2
-    ∙ rw c.before.before.fixed-up.ensures
-    (visited c.before.before.before.before.before.before.before.before.args.b.now c.before.before.before.before.before.before.before.before.args.log.now 0 (file_of c.before.before.before.before.before.before.before.before.args.file.now) c.before.before.before.before.before.before.before.before.requires.0
-    (rw c.before.before.before.before.plain.ensures at c.before.before.before.completed.ensures ∙ halves c.before.before.before.before.before.before.before.before.args.b.now))
+returns_2 : tie.Need-returns-in-4
+returns_2 c =
+    is_complex_lem c.fixed_up-x.result (file_of c.args.file.now) c.args.log.now c.requires.2 c.refusal_of-number.ensures c.in-4.is
+    ∙ rw c.fixed_up-x.ensures
+    (visited c.args.b.now c.args.log.now 0 (file_of c.args.file.now) c.requires.0
+    (rw c.plain-plain.ensures at c.completed-read.ensures ∙ halves c.args.b.now))
 
-returns-3 : tie.Need-returns-3
-returns-3 c =
-    is_refused c.before.before.fixed-up.result (file_of c.before.before.before.before.before.before.before.before.args.file.now) c.before.before.before.before.before.before.before.before.args.log.now c.before.before.before.before.before.before.before.before.requires.2 c.before.refusal-of.ensures c.match.rest.0.1 c.match.rest.1
-    ∙ rw c.before.before.fixed-up.ensures
-    (visited c.before.before.before.before.before.before.before.before.args.b.now c.before.before.before.before.before.before.before.before.args.log.now 0 (file_of c.before.before.before.before.before.before.before.before.args.file.now) c.before.before.before.before.before.before.before.before.requires.0
-    (rw c.before.before.before.before.plain.ensures at c.before.before.before.completed.ensures ∙ halves c.before.before.before.before.before.before.before.before.args.b.now))
+returns_3 : tie.Need-returns-in_default
+returns_3 c =
+    is_refused c.fixed_up-x.result (file_of c.args.file.now) c.args.log.now c.requires.2 c.refusal_of-number.ensures c.in_default.in_default-own.rest.0.1 c.in_default.in_default-own.rest.1
+    ∙ rw c.fixed_up-x.ensures
+    (visited c.args.b.now c.args.log.now 0 (file_of c.args.file.now) c.requires.0
+    (rw c.plain-plain.ensures at c.completed-read.ensures ∙ halves c.args.b.now))
 
-pub visit-record-spec : {M : Type 1} → statement M
-visit-record-spec =
+pub visit_record_spec : {M : Type 1} → statement M
+visit_record_spec =
     tie.close
     (tie.spec
-    plain-requires
-    completed-requires
-    fixed-up-requires
-    refusal-of-requires
-    parse-requires
-    resolve-requires
-    put-log-requires
+    plain_requires
+    completed_requires
+    fixed_up_requires
+    refusal_of_requires
+    parse_requires
+    resolve_requires
+    put_log_requires
     same_length
     returns
-    returns-2
-    returns-3)
+    returns_2
+    returns_3)
