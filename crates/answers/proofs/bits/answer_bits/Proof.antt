@@ -4,67 +4,67 @@ use borrow.Author.Rules.{rules}
 use Rattle.answers.proofs.bits.answer_bits.Statement.{statement}
 use Rattle.answers.proofs.bits.answer_bits.Tie as tie
 
-enum-known-a : tie.Need-enum-known-a
-enum-known-a c = search rules
+enum_known_a : tie.Need-enum_known-a
+enum_known_a c = search rules
 
-mul-result : tie.Need-overflow-mul-result
-mul-result c = omega (arith, rw c.before.a.given.1 at c.before.before.before.requires)
+mul_result : tie.Need-overflow_mul-result
+mul_result c = omega (arith, rw c.in-Done.is at c.requires)
 
-enum-known-a-2 : tie.Need-enum-known-a-2
-enum-known-a-2 c = search rules
+enum_known_a_2 : tie.Need-enum_known-a-in-Refused-1
+enum_known_a_2 c = search rules
 
-cast-result : tie.Need-overflow-cast-result
-cast-result c = search rules
+cast_result : tie.Need-overflow_cast-result
+cast_result c = search rules
 
-enum-known-a-3 : tie.Need-enum-known-a-3
-enum-known-a-3 c = search rules
+enum_known_a_3 : tie.Need-enum_known-a-in-Complex-1
+enum_known_a_3 c = search rules
 
-cast-result-2 : tie.Need-overflow-cast-result-2
-cast-result-2 c = search rules
+cast_result_2 : tie.Need-overflow_cast-result-in-Complex
+cast_result_2 c = search rules
 
-mul-result-2 : tie.Need-overflow-mul-result-2
-mul-result-2 c = search rules
+mul_result_2 : tie.Need-overflow_mul-result-in-Complex
+mul_result_2 c = search rules
 
-add-result : tie.Need-overflow-add-result
-add-result c = search rules
+add_result : tie.Need-overflow_add-result
+add_result c = search rules
 
-enum-known-a-4 : tie.Need-enum-known-a-4
-enum-known-a-4 c = search rules
+enum_known_a_4 : tie.Need-enum_known-a-in-Short-1
+enum_known_a_4 c = search rules
 
-mul-result-3 : tie.Need-overflow-mul-result-3
-mul-result-3 c = omega (arith, rw c.before.a4.given.1 at c.before.before.before.requires)
+mul_result_3 : tie.Need-overflow_mul-result-in-Short
+mul_result_3 c = omega (arith, rw c.in-Short.is at c.requires)
 
-add-result-2 : tie.Need-overflow-add-result-2
-add-result-2 c = omega (arith, rw c.before.a4.given.1 at c.before.before.before.requires)
+add_result_2 : tie.Need-overflow_add-result-in-Short
+add_result_2 c = omega (arith, rw c.in-Short.is at c.requires)
 
-returns : tie.Need-returns
-returns c = rw c.before.a.given.1 (omega arith)
+returns : tie.Need-returns-in-Done
+returns c = rw c.in-Done.is (omega arith)
 
-returns-2 : tie.Need-returns-2
-returns-2 c = rw c.before.a2.given.1 (omega arith)
+returns_2 : tie.Need-returns-in-Refused
+returns_2 c = rw c.in-Refused.is (omega arith)
 
-returns-3 : tie.Need-returns-3
-returns-3 c = rw c.before.a3.given.1 (omega arith)
+returns_3 : tie.Need-returns-in-Complex
+returns_3 c = rw c.in-Complex.is (omega arith)
 
-returns-4 : tie.Need-returns-4
-returns-4 c = rw c.before.a4.given.1 (omega arith)
+returns_4 : tie.Need-returns-in-Short
+returns_4 c = rw c.in-Short.is (omega arith)
 
-pub answer-bits-spec : {M : Type 1} → statement M
-answer-bits-spec =
+pub answer_bits_spec : {M : Type 1} → statement M
+answer_bits_spec =
     tie.close
     (tie.spec
-    enum-known-a
-    mul-result
-    enum-known-a-2
-    cast-result
-    enum-known-a-3
-    cast-result-2
-    mul-result-2
-    add-result
-    enum-known-a-4
-    mul-result-3
-    add-result-2
+    enum_known_a
+    mul_result
+    enum_known_a_2
+    cast_result
+    enum_known_a_3
+    cast_result_2
+    mul_result_2
+    add_result
+    enum_known_a_4
+    mul_result_3
+    add_result_2
     returns
-    returns-2
-    returns-3
-    returns-4)
+    returns_2
+    returns_3
+    returns_4)

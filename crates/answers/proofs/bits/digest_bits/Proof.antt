@@ -4,59 +4,59 @@ use borrow.Author.Rules.{rules}
 use Rattle.answers.proofs.bits.digest_bits.Statement.{statement}
 use Rattle.answers.proofs.bits.digest_bits.Tie as tie
 
-enum-known-a : tie.Need-enum-known-a
-enum-known-a c = search rules
+enum_known_a : tie.Need-enum_known-a
+enum_known_a c = search rules
 
-cast-result : tie.Need-overflow-cast-result
-cast-result c = search rules
+cast_result : tie.Need-overflow_cast-result
+cast_result c = search rules
 
-mul-result : tie.Need-overflow-mul-result
-mul-result c = search rules
+mul_result : tie.Need-overflow_mul-result
+mul_result c = search rules
 
-cast-result-2 : tie.Need-overflow-cast-result-2
-cast-result-2 c = search rules
+cast_result_2 : tie.Need-overflow_cast-result-in-Done
+cast_result_2 c = search rules
 
-mul-result-2 : tie.Need-overflow-mul-result-2
-mul-result-2 c = search rules
+mul_result_2 : tie.Need-overflow_mul-result-in-Done
+mul_result_2 c = search rules
 
-add-result : tie.Need-overflow-add-result
-add-result c = search rules
+add_result : tie.Need-overflow_add-result
+add_result c = search rules
 
-cast-result-3 : tie.Need-overflow-cast-result-3
-cast-result-3 c = search rules
+cast_result_3 : tie.Need-overflow_cast-result-in-Done-2
+cast_result_3 c = search rules
 
-mul-result-3 : tie.Need-overflow-mul-result-3
-mul-result-3 c = search rules
+mul_result_3 : tie.Need-overflow_mul-result-in-Done-2
+mul_result_3 c = search rules
 
-add-result-2 : tie.Need-overflow-add-result-2
-add-result-2 c = search rules
+add_result_2 : tie.Need-overflow_add-result-in-Done
+add_result_2 c = search rules
 
-enum-known-a-2 : tie.Need-enum-known-a-2
-enum-known-a-2 c = search rules
+enum_known_a_2 : tie.Need-enum_known-a-in-Refused-1
+enum_known_a_2 c = search rules
 
-cast-result-4 : tie.Need-overflow-cast-result-4
-cast-result-4 c = search rules
+cast_result_4 : tie.Need-overflow_cast-result-in-Refused
+cast_result_4 c = search rules
 
-returns : tie.Need-returns
-returns c = rw c.before.before.before.before.a.given.1 (omega arith)
+returns : tie.Need-returns-in-Done
+returns c = rw c.in-Done.is (omega arith)
 
-returns-2 : tie.Need-returns-2
-returns-2 c = rw c.before.a2.given.1 (omega arith)
+returns_2 : tie.Need-returns-in-Refused
+returns_2 c = rw c.in-Refused.is (omega arith)
 
-pub digest-bits-spec : {M : Type 1} → statement M
-digest-bits-spec =
+pub digest_bits_spec : {M : Type 1} → statement M
+digest_bits_spec =
     tie.close
     (tie.spec
-    enum-known-a
-    cast-result
-    mul-result
-    cast-result-2
-    mul-result-2
-    add-result
-    cast-result-3
-    mul-result-3
-    add-result-2
-    enum-known-a-2
-    cast-result-4
+    enum_known_a
+    cast_result
+    mul_result
+    cast_result_2
+    mul_result_2
+    add_result
+    cast_result_3
+    mul_result_3
+    add_result_2
+    enum_known_a_2
+    cast_result_4
     returns
-    returns-2)
+    returns_2)

@@ -4,39 +4,39 @@ use borrow.Author.Rules.{rules}
 use Rattle.answers.proofs.bits.privilege_bits.Statement.{statement}
 use Rattle.answers.proofs.bits.privilege_bits.Tie as tie
 
-enum-known-a : tie.Need-enum-known-a
-enum-known-a c = search rules
+enum_known_a : tie.Need-enum_known-a
+enum_known_a c = search rules
 
-to-bits-requires : tie.Need-to-bits-requires
-to-bits-requires c κs = search rules
+to_bits_requires : tie.Need-to_bits-requires
+to_bits_requires c κs = search rules
 
-cast-result : tie.Need-overflow-cast-result
-cast-result c = search rules
+cast_result : tie.Need-overflow_cast-result
+cast_result c = search rules
 
-mul-result : tie.Need-overflow-mul-result
-mul-result c = search rules
+mul_result : tie.Need-overflow_mul-result
+mul_result c = search rules
 
-enum-known-a-2 : tie.Need-enum-known-a-2
-enum-known-a-2 c = search rules
+enum_known_a_2 : tie.Need-enum_known-a-in-Refused-1
+enum_known_a_2 c = search rules
 
-cast-result-2 : tie.Need-overflow-cast-result-2
-cast-result-2 c = search rules
+cast_result_2 : tie.Need-overflow_cast-result-in-Refused
+cast_result_2 c = search rules
 
-returns : tie.Need-returns
-returns c = rw (c.before.before.a.given.1, c.to-bits.ensures) (omega arith)
+returns : tie.Need-returns-in-Done
+returns c = rw (c.in-Done.is, c.to_bits.ensures) (omega arith)
 
-returns-2 : tie.Need-returns-2
-returns-2 c = rw c.before.a2.given.1 (omega arith)
+returns_2 : tie.Need-returns-in-Refused
+returns_2 c = rw c.in-Refused.is (omega arith)
 
-pub privilege-bits-spec : {M : Type 1} → statement M
-privilege-bits-spec =
+pub privilege_bits_spec : {M : Type 1} → statement M
+privilege_bits_spec =
     tie.close
     (tie.spec
-    enum-known-a
-    to-bits-requires
-    cast-result
-    mul-result
-    enum-known-a-2
-    cast-result-2
+    enum_known_a
+    to_bits_requires
+    cast_result
+    mul_result
+    enum_known_a_2
+    cast_result_2
     returns
-    returns-2)
+    returns_2)

@@ -8,73 +8,73 @@ use Rattle.fetch.proofs.Few.{named_few}
 use Rattle.fetch.proofs.bits.judge_bits.Statement.{statement}
 use Rattle.fetch.proofs.bits.judge_bits.Tie as tie
 
-judge-requires : tie.Need-judge-requires
-judge-requires c κs = search rules
+judge_requires : tie.Need-judge-said-requires
+judge_requires c κs = search rules
 
-enum_told : tie.Need-enum-told
+enum_told : tie.Need-enum_told-1
 enum_told c = search rules
 
-enum-told-2 : tie.Need-enum-told-2
-enum-told-2 c = search rules
+enum_told_2 : tie.Need-enum_told-in-NoSuchBit
+enum_told_2 c = search rules
 
-enum-known-said : tie.Need-enum-known-said
-enum-known-said c = search rules
+enum_known_said : tie.Need-enum_known-said
+enum_known_said c = search rules
 
-cast-result : tie.Need-overflow-cast-result
-cast-result c = search rules
+cast_result : tie.Need-overflow_cast-result
+cast_result c = search rules
 
-mul-result : tie.Need-overflow-mul-result
-mul-result c = search rules
+mul_result : tie.Need-overflow_mul-result
+mul_result c = search rules
 
 -- the record that is named is one of few
-few : (c : tie.After-known-told) → c.before.said.given.0.0 < most_records
+few : (c : tie.In-Lacking) → c.in-Lacking.i < most_records
 few c =
-    let a = c.before.before.before.before.before.args in
-    named_few a.bytes.now a.each a.set _ c.before.said.given.0.1.0 (sym c.before.before.before.judge.ensures ∙ c.before.said.given.1)
+    let a = c.args in
+    named_few a.bytes.now a.each a.set _ c.in-Lacking.k (sym c.judge-said.ensures ∙ c.in-Lacking.is)
 
-mul-result-2 : tie.Need-overflow-mul-result-2
-mul-result-2 c = record { fits = omega (arith, few c) }
+mul_result_2 : tie.Need-overflow_mul-result-in-Lacking
+mul_result_2 c = record { fits = omega (arith, few c) }
 
-add-result : tie.Need-overflow-add-result
-add-result c = record { fits = omega (arith, few c) }
+add_result : tie.Need-overflow_add-result
+add_result c = record { fits = omega (arith, few c) }
 
-enum-known-said-2 : tie.Need-enum-known-said-2
-enum-known-said-2 c = search rules
+enum_known_said_2 : tie.Need-enum_known-said-in-Refused-1
+enum_known_said_2 c = search rules
 
-cast-result-2 : tie.Need-overflow-cast-result-2
-cast-result-2 c = search rules
+cast_result_2 : tie.Need-overflow_cast-result-in-Refused
+cast_result_2 c = search rules
 
-returns : tie.Need-returns
+returns : tie.Need-returns-in-Accepted
 unfolding judgement_bits
-returns c = rw (sym c.before.before.judge.ensures ∙ c.enum_told.given.1)
+returns c = rw (sym c.judge-said.ensures ∙ c.in-Accepted.is)
 
-returns-2 : tie.Need-returns-2
+returns_2 : tie.Need-returns-in-NoSuchBit
 unfolding judgement_bits
-returns-2 c = rw (sym c.before.before.judge.ensures ∙ c.enum-told2.given.1)
+returns_2 c = rw (sym c.judge-said.ensures ∙ c.in-NoSuchBit.is)
 
-returns-3 : tie.Need-returns-3
+returns_3 : tie.Need-returns-in-Lacking
 unfolding judgement_bits
-returns-3 c = rw (sym c.before.before.before.judge.ensures ∙ c.before.said.given.1) (omega arith)
+returns_3 c = rw (sym c.judge-said.ensures ∙ c.in-Lacking.is) (omega arith)
 
-returns-4 : tie.Need-returns-4
+returns_4 : tie.Need-returns-in-Refused
 unfolding judgement_bits
-returns-4 c = rw (sym c.before.before.before.judge.ensures ∙ c.before.said2.given.1) (omega arith)
+returns_4 c = rw (sym c.judge-said.ensures ∙ c.in-Refused.is) (omega arith)
 
-pub judge-bits-spec : {M : Type 1} → statement M
-judge-bits-spec =
+pub judge_bits_spec : {M : Type 1} → statement M
+judge_bits_spec =
     tie.close
     (tie.spec
-    judge-requires
+    judge_requires
     enum_told
-    enum-told-2
-    enum-known-said
-    cast-result
-    mul-result
-    mul-result-2
-    add-result
-    enum-known-said-2
-    cast-result-2
+    enum_told_2
+    enum_known_said
+    cast_result
+    mul_result
+    mul_result_2
+    add_result
+    enum_known_said_2
+    cast_result_2
     returns
-    returns-2
-    returns-3
-    returns-4)
+    returns_2
+    returns_3
+    returns_4)

@@ -5,41 +5,41 @@ use Rattle.fetch.specs.Answers.{proposal_bits}
 use Rattle.fetch.proofs.bits.propose_bits.Statement.{statement}
 use Rattle.fetch.proofs.bits.propose_bits.Tie as tie
 
-propose-requires : tie.Need-propose-requires
-propose-requires c κs = search rules
+propose_requires : tie.Need-propose-said-requires
+propose_requires c κs = search rules
 
-enum-known-said : tie.Need-enum-known-said
-enum-known-said c = search rules
+enum_known_said : tie.Need-enum_known-said
+enum_known_said c = search rules
 
-cast-result : tie.Need-overflow-cast-result
-cast-result c = search rules
+cast_result : tie.Need-overflow_cast-result
+cast_result c = search rules
 
-mul-result : tie.Need-overflow-mul-result
-mul-result c = search rules
+mul_result : tie.Need-overflow_mul-result
+mul_result c = search rules
 
-enum-known-said-2 : tie.Need-enum-known-said-2
-enum-known-said-2 c = search rules
+enum_known_said_2 : tie.Need-enum_known-said-in-Refused-1
+enum_known_said_2 c = search rules
 
-cast-result-2 : tie.Need-overflow-cast-result-2
-cast-result-2 c = search rules
+cast_result_2 : tie.Need-overflow_cast-result-in-Refused
+cast_result_2 c = search rules
 
-returns : tie.Need-returns
+returns : tie.Need-returns-in-Done
 unfolding proposal_bits
-returns c = rw (sym c.before.before.before.propose.ensures ∙ c.before.said.given.1) (omega arith)
+returns c = rw (sym c.propose-said.ensures ∙ c.in-Done.is) (omega arith)
 
-returns-2 : tie.Need-returns-2
+returns_2 : tie.Need-returns-in-Refused
 unfolding proposal_bits
-returns-2 c = rw (sym c.before.before.before.propose.ensures ∙ c.before.said2.given.1) (omega arith)
+returns_2 c = rw (sym c.propose-said.ensures ∙ c.in-Refused.is) (omega arith)
 
-pub propose-bits-spec : {M : Type 1} → statement M
-propose-bits-spec =
+pub propose_bits_spec : {M : Type 1} → statement M
+propose_bits_spec =
     tie.close
     (tie.spec
-    propose-requires
-    enum-known-said
-    cast-result
-    mul-result
-    enum-known-said-2
-    cast-result-2
+    propose_requires
+    enum_known_said
+    cast_result
+    mul_result
+    enum_known_said_2
+    cast_result_2
     returns
-    returns-2)
+    returns_2)

@@ -13,53 +13,53 @@ use Rattle.fetch.proofs.judging.first_lacking.Tie as tie
 abbrev lacking : ℕ → ℕ → ℕ → Bool
 lacking v set k = bit v k && not (bit set k)
 
-abbrev invariant-loop : tie.invariant-loop
+abbrev invariant-loop : tie.invariant-loop-k
 invariant-loop needs set k₀ k = (k ≤ set_bits) × (first_from (lacking needs set) k (set_bits - k) ≡ first_from (lacking needs set) 0 set_bits)
 
-abbrev decreases-loop : tie.decreases-loop
+abbrev decreases-loop : tie.decreases-loop-k
 decreases-loop needs set k₀ k = set_bits - k
 
-loop-holds : tie.Need-loop-init invariant-loop decreases-loop
-loop-holds c = (zero-le, refl)
+loop_holds : tie.Need-loop-k-init invariant-loop decreases-loop
+loop_holds c = (zero-le, refl)
 
-is-lacking-requires : tie.Need-is-lacking-requires invariant-loop decreases-loop
-is-lacking-requires c κs = c.loop-test.true
+is_lacking_requires : tie.Need-is_lacking-requires invariant-loop decreases-loop
+is_lacking_requires c κs = c.loop-k-test.true
 
-returns : tie.Need-returns invariant-loop decreases-loop
+returns : tie.Need-returns-then-is_lacking invariant-loop decreases-loop
 returns c =
-    let a = c.before.before.before.before.args in
-    let l = c.before.before.before.loop in
-    first_here (lacking a.needs a.set) l.k set_bits c.before.before.loop-test.true (sym c.before.is-lacking.ensures ∙ c.if1.true) ∙ l.invariant.1
+    let a = c.args in
+    let l = c.loop-k in
+    first_here (lacking a.needs a.set) l.k set_bits c.loop-k-test.true (sym c.is_lacking.ensures ∙ c.if-is_lacking.true) ∙ l.invariant.1
 
-add-k : tie.Need-overflow-add-k invariant-loop decreases-loop
-add-k c = omega arith
+add_k : tie.Need-overflow_add-k invariant-loop decreases-loop
+add_k c = omega arith
 
-loop-less : tie.Need-loop-smaller invariant-loop decreases-loop
-loop-less c = omega arith
+loop_less : tie.Need-loop-k-smaller invariant-loop decreases-loop
+loop_less c = omega arith
 
-loop-again : tie.Need-loop-preserved invariant-loop decreases-loop
-loop-again c =
-    let a = c.before.before.before.before.args in
-    let l = c.before.before.before.loop in (
+loop_again : tie.Need-loop-k-preserved invariant-loop decreases-loop
+loop_again c =
+    let a = c.args in
+    let l = c.loop-k in (
       omega arith,
-      first_next (lacking a.needs a.set) l.k set_bits c.before.before.loop-test.true (sym c.before.is-lacking.ensures ∙ c.if1.false) ∙ l.invariant.1,
+      first_next (lacking a.needs a.set) l.k set_bits c.loop-k-test.true (sym c.is_lacking.ensures ∙ c.if-is_lacking.false) ∙ l.invariant.1,
     )
 
-returns-2 : tie.Need-returns-2 invariant-loop decreases-loop
-returns-2 c =
-    let a = c.before.before.args in
-    first_none (lacking a.needs a.set) c.before.loop.k set_bits (omega arith) ∙ c.before.loop.invariant.1
+returns_2 : tie.Need-returns invariant-loop decreases-loop
+returns_2 c =
+    let a = c.args in
+    first_none (lacking a.needs a.set) c.loop-k.k set_bits (omega arith) ∙ c.loop-k.invariant.1
 
-pub first-lacking-spec : {M : Type 1} → statement M
-first-lacking-spec =
+pub first_lacking_spec : {M : Type 1} → statement M
+first_lacking_spec =
     tie.close
     (tie.spec
     invariant-loop
     decreases-loop
-    loop-holds
-    is-lacking-requires
+    loop_holds
+    is_lacking_requires
     returns
-    add-k
-    loop-less
-    loop-again
-    returns-2)
+    add_k
+    loop_less
+    loop_again
+    returns_2)

@@ -4,25 +4,25 @@ use Rattle.fetching.specs.Judging.{judge, judge_call}
 use Rattle.fetch.proofs.judging.judge.Statement.{statement}
 use Rattle.fetch.proofs.judging.judge.Tie as tie
 
-list-refusal-requires : tie.Need-list-refusal-requires
-list-refusal-requires c κs = search rules
+list_refusal_requires : tie.Need-list_refusal-number-requires
+list_refusal_requires c κs = search rules
 
-returns : tie.Need-returns
+returns : tie.Need-returns-then-number-ne0
 unfolding judge_call
-returns c = rw (← c.before.list-refusal.ensures, ne_eqb _ 0 c.if1.true)
+returns c = rw (← c.list_refusal-number.ensures, ne_eqb _ 0 c.if-number-ne0.true)
 
-judge-records-requires : tie.Need-judge-records-requires
-judge-records-requires c κs = search rules
+judge_records_requires : tie.Need-judge_records-requires
+judge_records_requires c κs = search rules
 
-returns-2 : tie.Need-returns-2
+returns_2 : tie.Need-returns-then-set-lt-SETS
 unfolding judge_call judge
-returns-2 c =
-    rw (← c.before.before.before.list-refusal.ensures, eq-eqb _ 0 c.before.before.if1.false, lt-ltb _ _ c.before.if2.true) c.judge-records.ensures
+returns_2 c =
+    rw (← c.list_refusal-number.ensures, eq-eqb _ 0 c.if-number-ne0.false, lt-ltb _ _ c.if-set-lt-SETS.true) c.judge_records.ensures
 
-returns-3 : tie.Need-returns-3
+returns_3 : tie.Need-returns
 unfolding judge_call judge
-returns-3 c = rw (← c.before.before.list-refusal.ensures, eq-eqb _ 0 c.before.if1.false, le-ltb _ _ c.if2.false)
+returns_3 c = rw (← c.list_refusal-number.ensures, eq-eqb _ 0 c.if-number-ne0.false, le-ltb _ _ c.if-set-lt-SETS.false)
 
-pub judge-spec : {M : Type 1} → statement M
-judge-spec =
-    tie.close (tie.spec list-refusal-requires returns judge-records-requires returns-2 returns-3)
+pub judge_spec : {M : Type 1} → statement M
+judge_spec =
+    tie.close (tie.spec list_refusal_requires returns judge_records_requires returns_2 returns_3)

@@ -6,20 +6,20 @@ use Rattle.fetching.specs.declared.Proposal.TheVariants.{Done}
 use Rattle.fetch.proofs.judging.propose.Statement.{statement}
 use Rattle.fetch.proofs.judging.propose.Tie as tie
 
-list-refusal-requires : tie.Need-list-refusal-requires
-list-refusal-requires c κs = search rules
+list_refusal_requires : tie.Need-list_refusal-number-requires
+list_refusal_requires c κs = search rules
 
-returns : tie.Need-returns
+returns : tie.Need-returns-then-number-ne0
 unfolding propose_call
-returns c = rw (← c.before.list-refusal.ensures, ne_eqb _ 0 c.if1.true)
+returns c = rw (← c.list_refusal-number.ensures, ne_eqb _ 0 c.if-number-ne0.true)
 
-propose-records-requires : tie.Need-propose-records-requires
-propose-records-requires c κs = search rules
+propose_records_requires : tie.Need-propose_records-requires
+propose_records_requires c κs = search rules
 
-returns-2 : tie.Need-returns-2
+returns_2 : tie.Need-returns
 unfolding propose_call
-returns-2 c = rw (← c.before.before.list-refusal.ensures, eq-eqb _ 0 c.before.if1.false) (ap Done c.propose-records.ensures)
+returns_2 c = rw (← c.list_refusal-number.ensures, eq-eqb _ 0 c.if-number-ne0.false) (ap Done c.propose_records.ensures)
 
-pub propose-spec : {M : Type 1} → statement M
-propose-spec =
-    tie.close (tie.spec list-refusal-requires returns propose-records-requires returns-2)
+pub propose_spec : {M : Type 1} → statement M
+propose_spec =
+    tie.close (tie.spec list_refusal_requires returns propose_records_requires returns_2)

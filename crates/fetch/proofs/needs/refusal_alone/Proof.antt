@@ -4,31 +4,31 @@ use Rattle.fetch.proofs.Records.{visited_alone}
 use Rattle.fetch.proofs.needs.refusal_alone.Statement.{statement}
 use Rattle.fetch.proofs.needs.refusal_alone.Tie as tie
 
-array-write-file : tie.Need-array-write-file
-array-write-file c = search rules
+array_write_file : tie.Need-bounds-file-0
+array_write_file c = search rules
 
-slice-aggregate-visit-accesses : tie.Need-slice-aggregate-visit-accesses
-slice-aggregate-visit-accesses c = search rules
+slice_aggregate_visit_accesses : tie.Need-slice_bounds-visit_accesses-end
+slice_aggregate_visit_accesses c = search rules
 
-slice-aggregate-visit-accesses-2 : tie.Need-slice-aggregate-visit-accesses-2
-slice-aggregate-visit-accesses-2 c = search rules
+slice_aggregate_visit_accesses_2 : tie.Need-slice_bounds-visit_accesses-end-2
+slice_aggregate_visit_accesses_2 c = search rules
 
-visit-accesses-requires : tie.Need-visit-accesses-requires
-visit-accesses-requires c κs = search rules
+visit_accesses_requires : tie.Need-visit_accesses-answer-requires
+visit_accesses_requires c κs = search rules
 
-number-of-requires : tie.Need-number-of-requires
-number-of-requires c κs = search rules
+number_of_requires : tie.Need-number_of-requires
+number_of_requires c κs = search rules
 
 returns : tie.Need-returns
-returns c = c.number_of_lem.ensures ∙ visited_alone c.before.before.before.before.before.before.args.b.now c.before.before.visit-accesses.ensures
+returns c = c.number_of.ensures ∙ visited_alone c.args.b.now c.visit_accesses-answer.ensures
 
-pub refusal-alone-spec : {M : Type 1} → statement M
-refusal-alone-spec =
+pub refusal_alone_spec : {M : Type 1} → statement M
+refusal_alone_spec =
     tie.close
     (tie.spec
-    array-write-file
-    slice-aggregate-visit-accesses
-    slice-aggregate-visit-accesses-2
-    visit-accesses-requires
-    number-of-requires
+    array_write_file
+    slice_aggregate_visit_accesses
+    slice_aggregate_visit_accesses_2
+    visit_accesses_requires
+    number_of_requires
     returns)

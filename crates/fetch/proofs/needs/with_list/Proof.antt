@@ -11,55 +11,55 @@ use Rattle.fetch.proofs.Lists.{register_lists, mask_lists, string_lists, stack_l
 use Rattle.fetch.proofs.needs.with_list.Statement.{statement}
 use Rattle.fetch.proofs.needs.with_list.Tie as tie
 
-with-requires : tie.Need-with-requires
-with-requires c κs = search rules
+with_requires : tie.Need-with-requires
+with_requires c κs = search rules
 
-with-requires-2 : tie.Need-with-requires-2
-with-requires-2 c κs = search rules
+with_requires_2 : tie.Need-with-requires-in-28
+with_requires_2 c κs = search rules
 
-with-requires-3 : tie.Need-with-requires-3
-with-requires-3 c κs = search rules
+with_requires_3 : tie.Need-with-requires-in-15-to-16
+with_requires_3 c κs = search rules
 
-with-requires-4 : tie.Need-with-requires-4
-with-requires-4 c κs = search rules
+with_requires_4 : tie.Need-with-requires-in-26-to-27
+with_requires_4 c κs = search rules
 
-returns : tie.Need-returns
+returns : tie.Need-returns-in-28
 unfolding joined list_needs implicit_of entry_needs form_needs slots_of part_of is_logged each
-returns c = rw (c.before.before.match.keys1, ← c.before.with.ensures) c.with2.ensures
+returns c = rw (c.in-28.is, ← c.with.ensures) c.with-in-28.ensures
 
-returns-2 : tie.Need-returns-2
+returns_2 : tie.Need-returns-in-15-to-16
 unfolding joined
-returns-2 c = rw (mask_lists c.before.before.before.before.args.list (omega arith) (omega arith)) c.with3.ensures
+returns_2 c = rw (mask_lists c.args.list (omega arith) (omega arith)) c.with-in-15-to-16.ensures
 
-returns-3 : tie.Need-returns-3
+returns_3 : tie.Need-returns-in-26-to-27
 unfolding joined
-returns-3 c = rw (stack_lists c.before.before.before.before.before.before.args.list (omega arith) (omega arith)) c.with4.ensures
+returns_3 c = rw (stack_lists c.args.list (omega arith) (omega arith)) c.with-in-26-to-27.ensures
 
-returns-4 : tie.Need-returns-4
+returns_4 : tie.Need-returns-in_default
 unfolding joined
-returns-4 c = rw (register_lists c.before.before.args.list (omega arith))
+returns_4 c = rw (register_lists c.args.list (omega arith))
 
-returns-5 : tie.Need-returns-5
+returns_5 : tie.Need-returns-in_default-2
 unfolding joined
-returns-5 c = rw (string_lists c.before.before.before.before.args.list (omega arith) (omega arith))
+returns_5 c = rw (string_lists c.args.list (omega arith) (omega arith))
 
-returns-6 : tie.Need-returns-6
+returns_6 : tie.Need-returns-in_default-3
 unfolding joined
-returns-6 c =
-    let ne = c.before.before.before.before.match.rest.1 in
-    rw (past_lists c.before.before.before.before.before.args.list (omega (arith, ne)))
+returns_6 c =
+    let ne = c.in_default.in_default-own.rest.1 in
+    rw (past_lists c.args.list (omega (arith, ne)))
 
-pub with-list-spec : {M : Type 1} → statement M
-with-list-spec =
+pub with_list_spec : {M : Type 1} → statement M
+with_list_spec =
     tie.close
     (tie.spec
-    with-requires
-    with-requires-2
-    with-requires-3
-    with-requires-4
+    with_requires
+    with_requires_2
+    with_requires_3
+    with_requires_4
     returns
-    returns-2
-    returns-3
-    returns-4
-    returns-5
-    returns-6)
+    returns_2
+    returns_3
+    returns_4
+    returns_5
+    returns_6)

@@ -6,42 +6,42 @@ use Rattle.fetch.proofs.Records.{record_passes, refused, good_record}
 use Rattle.fetch.proofs.needs.with_record.Statement.{statement}
 use Rattle.fetch.proofs.needs.with_record.Tie as tie
 
-refusal-alone-requires : tie.Need-refusal-alone-requires
-refusal-alone-requires c κs = search rules
+refusal_alone_requires : tie.Need-refusal_alone-requires
+refusal_alone_requires c κs = search rules
 
-returns : tie.Need-returns
+returns : tie.Need-returns-then-refusal_alone-ne0
 returns c =
-    let a = c.before.before.before.args in
-    refused a.b.now a.set (rw c.before.refusal-alone.ensures at c.if1.true)
+    let a = c.args in
+    refused a.b.now a.set (rw c.refusal_alone.ensures at c.if-refusal_alone-ne0.true)
 
-parse-requires : tie.Need-parse-requires
-parse-requires c κs =
-    let b = c.before.before.before.args.b.now in
-    record_long b (passed b (record_passes b (sym c.before.refusal-alone.ensures ∙ c.if1.false))).is
+parse_requires : tie.Need-parse-requires
+parse_requires c κs =
+    let b = c.args.b.now in
+    record_long b (passed b (record_passes b (sym c.refusal_alone.ensures ∙ c.if-refusal_alone-ne0.false))).is
 
-fixed-up-requires : tie.Need-fixed-up-requires
-fixed-up-requires c κs = search rules
+fixed_up_requires : tie.Need-fixed_up-x-requires
+fixed_up_requires c κs = search rules
 
-with-list-requires : tie.Need-with-list-requires
-with-list-requires c κs = search rules
+with_list_requires : tie.Need-with_list-requires
+with_list_requires c κs = search rules
 
-with-operands-requires : tie.Need-with-operands-requires
-with-operands-requires c κs = search rules
+with_operands_requires : tie.Need-with_operands-requires
+with_operands_requires c κs = search rules
 
-returns-2 : tie.Need-returns-2
-returns-2 c =
-    let s = c.before.before.before.before in
-    let a = s.before.before.before.args in
-    good_record a.b.now a.set (sym s.before.refusal-alone.ensures ∙ s.if1.false) (c.before.before.fixed-up.ensures ∙ ap fixed_up c.before.before.before.parse.ensures) c.before.with-list.ensures c.with_operands.ensures
+returns_2 : tie.Need-returns
+returns_2 c =
+    let s = c in
+    let a = s.args in
+    good_record a.b.now a.set (sym s.refusal_alone.ensures ∙ s.if-refusal_alone-ne0.false) (c.fixed_up-x.ensures ∙ ap fixed_up c.parse.ensures) c.with_list.ensures c.with_operands.ensures
 
-pub with-record-spec : {M : Type 1} → statement M
-with-record-spec =
+pub with_record_spec : {M : Type 1} → statement M
+with_record_spec =
     tie.close
     (tie.spec
-    refusal-alone-requires
+    refusal_alone_requires
     returns
-    parse-requires
-    fixed-up-requires
-    with-list-requires
-    with-operands-requires
-    returns-2)
+    parse_requires
+    fixed_up_requires
+    with_list_requires
+    with_operands_requires
+    returns_2)

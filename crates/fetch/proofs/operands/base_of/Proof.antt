@@ -6,72 +6,72 @@ use Rattle.fetch.proofs.Specs.{register_specs, deref_specs, disp_specs, index_sp
 use Rattle.fetch.proofs.operands.base_of.Statement.{statement}
 use Rattle.fetch.proofs.operands.base_of.Tie as tie
 
-element-copy-out-t12 : tie.Need-element-copy-out-t12
-element-copy-out-t12 c = search rules
+element_copy_out_t12 : tie.Need-bounds-x-1
+element_copy_out_t12 c = search rules
 
-element-copy-out-t15 : tie.Need-element-copy-out-t15
-element-copy-out-t15 c = search rules
+element_copy_out_t15 : tie.Need-bounds-x-1-in-24-to-25
+element_copy_out_t15 c = search rules
 
-element-copy-out-t18 : tie.Need-element-copy-out-t18
-element-copy-out-t18 c = search rules
+element_copy_out_t18 : tie.Need-bounds-x-1-in-30-to-33
+element_copy_out_t18 c = search rules
 
-returns : tie.Need-returns
+returns : tie.Need-returns-in-20
 unfolding shape_of shape_base base_of
-returns c = rw c.match.keys1
+returns c = rw c.in-20.is
 
-returns-2 : tie.Need-returns-2
+returns_2 : tie.Need-returns-in-21
 unfolding shape_of shape_base base_of
-returns-2 c = rw c.match.keys2
+returns_2 c = rw c.in-21.is
 
-returns-3 : tie.Need-returns-3
+returns_3 : tie.Need-returns-in-22
 unfolding shape_of shape_base base_of
-returns-3 c = rw c.match.keys3
+returns_3 c = rw c.in-22.is
 
-returns-4 : tie.Need-returns-4
+returns_4 : tie.Need-returns-in-23
 unfolding shape_of shape_base base_of
-returns-4 c = rw c.match.keys4
+returns_4 c = rw c.in-23.is
 
-returns-5 : tie.Need-returns-5
+returns_5 : tie.Need-returns-in-18-to-19
 unfolding base_of
-returns-5 c = rw (← (deref_specs c.before.before.before.before.args.spec c.before.before.if1.false c.before.if2.true))
+returns_5 c = rw (← (deref_specs c.args.spec c.in-18-to-19.if-spec-lt18-own.false c.in-18-to-19.if-spec-lt20-own.true))
 
-returns-6 : tie.Need-returns-6
+returns_6 : tie.Need-returns-in-24-to-25
 unfolding base_of
-returns-6 c =
-    let r = c.before.before.before.before.match.rest in
-    rw (← (disp_specs c.before.before.before.before.before.args.spec r.0.0.0.1 r.0.0.1 r.0.1 r.1 c.before.before.if2.false c.before.if3.true))
+returns_6 c =
+    let r = c.in-24-to-25.in_default-own.rest in
+    rw (← (disp_specs c.args.spec r.0.0.0.1 r.0.0.1 r.0.1 r.1 c.in-24-to-25.if-spec-lt20-own.false c.in-24-to-25.if-spec-lt26-own.true))
 
-returns-7 : tie.Need-returns-7
+returns_7 : tie.Need-returns-in-30-to-33
 unfolding base_of
-returns-7 c =
-    rw (← (base_index_specs c.before.before.before.before.before.before.before.args.spec c.before.before.if4.false c.before.if5.true))
+returns_7 c =
+    rw (← (base_index_specs c.args.spec c.in-30-to-33.if-spec-lt30-own.false c.in-30-to-33.if-spec-lt34-own.true))
 
-returns-8 : tie.Need-returns-8
+returns_8 : tie.Need-returns-in_default
 unfolding base_of
-returns-8 c = rw (← (register_specs c.before.before.args.spec c.if1.true))
+returns_8 c = rw (← (register_specs c.args.spec c.in_default.if-spec-lt18-own.true))
 
-returns-9 : tie.Need-returns-9
+returns_9 : tie.Need-returns-in_default-2
 unfolding base_of
-returns-9 c = rw (← (index_specs c.before.before.before.before.before.args.spec c.before.if3.false c.if4.true))
+returns_9 c = rw (← (index_specs c.args.spec c.in_default.if-spec-lt26-own.false c.in_default.if-spec-lt30-own.true))
 
-returns-10 : tie.Need-returns-10
+returns_10 : tie.Need-returns-in_default-3
 unfolding base_of
-returns-10 c = rw (← (absolute_specs c.before.before.before.before.before.before.args.spec c.if5.false))
+returns_10 c = rw (← (absolute_specs c.args.spec c.in_default.if-spec-lt34-own.false))
 
-pub base-of-spec : {M : Type 1} → statement M
-base-of-spec =
+pub base_of_spec : {M : Type 1} → statement M
+base_of_spec =
     tie.close
     (tie.spec
-    element-copy-out-t12
-    element-copy-out-t15
-    element-copy-out-t18
+    element_copy_out_t12
+    element_copy_out_t15
+    element_copy_out_t18
     returns
-    returns-2
-    returns-3
-    returns-4
-    returns-5
-    returns-6
-    returns-7
-    returns-8
-    returns-9
-    returns-10)
+    returns_2
+    returns_3
+    returns_4
+    returns_5
+    returns_6
+    returns_7
+    returns_8
+    returns_9
+    returns_10)

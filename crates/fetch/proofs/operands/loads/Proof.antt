@@ -2,11 +2,11 @@ use borrow.Author.Rules.{rules}
 use Rattle.fetch.proofs.operands.loads.Statement.{statement}
 use Rattle.fetch.proofs.operands.loads.Tie as tie
 
-returns : tie.Need-returns
-returns c = rw c.before.if1.true
+returns : tie.Need-returns-then-read
+returns c = rw c.if-read.true
 
-returns-2 : tie.Need-returns-2
-returns-2 c = search rules
+returns_2 : tie.Need-returns-else-read
+returns_2 c = search rules
 
-pub loads-spec : {M : Type 1} → statement M
-loads-spec = tie.close (tie.spec returns returns-2)
+pub loads_spec : {M : Type 1} → statement M
+loads_spec = tie.close (tie.spec returns returns_2)

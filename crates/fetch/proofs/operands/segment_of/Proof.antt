@@ -4,14 +4,14 @@ use Rattle.fetch.proofs.Specs.{segment_is}
 use Rattle.fetch.proofs.operands.segment_of.Statement.{statement}
 use Rattle.fetch.proofs.operands.segment_of.Tie as tie
 
-takes-base-requires : tie.Need-takes-base-requires
-takes-base-requires c κs = search rules
+takes_base_requires : tie.Need-takes_base-requires
+takes_base_requires c κs = search rules
 
-returns : tie.Need-returns
-returns c = let a = c.before.before.args in rw (segment_is a.x a.spec, sym c.before.takes-base.ensures ∙ c.if1.true)
+returns : tie.Need-returns-then-takes_base
+returns c = let a = c.args in rw (segment_is a.x a.spec, sym c.takes_base.ensures ∙ c.if-takes_base.true)
 
-returns-2 : tie.Need-returns-2
-returns-2 c = let a = c.before.before.args in rw (segment_is a.x a.spec, sym c.before.takes-base.ensures ∙ c.if1.false)
+returns_2 : tie.Need-returns-else-takes_base
+returns_2 c = let a = c.args in rw (segment_is a.x a.spec, sym c.takes_base.ensures ∙ c.if-takes_base.false)
 
-pub segment-of-spec : {M : Type 1} → statement M
-segment-of-spec = tie.close (tie.spec takes-base-requires returns returns-2)
+pub segment_of_spec : {M : Type 1} → statement M
+segment_of_spec = tie.close (tie.spec takes_base_requires returns returns_2)

@@ -4,40 +4,40 @@ use Rattle.fetch.proofs.Parts.{access_joined}
 use Rattle.fetch.proofs.operands.with_access.Statement.{statement}
 use Rattle.fetch.proofs.operands.with_access.Tie as tie
 
-base-of-requires : tie.Need-base-of-requires
-base-of-requires c κs = search rules
+base_of_requires : tie.Need-base_of-base-requires
+base_of_requires c κs = search rules
 
-index-of-requires : tie.Need-index-of-requires
-index-of-requires c κs = search rules
+index_of_requires : tie.Need-index_of-index-requires
+index_of_requires c κs = search rules
 
-segment-of-requires : tie.Need-segment-of-requires
-segment-of-requires c κs = search rules
+segment_of_requires : tie.Need-segment_of-segment-requires
+segment_of_requires c κs = search rules
 
-with-segment-requires : tie.Need-with-segment-requires
-with-segment-requires c κs = search rules
+with_segment_requires : tie.Need-with_segment-requires
+with_segment_requires c κs = search rules
 
-with-term-requires : tie.Need-with-term-requires
-with-term-requires c κs = search rules
+with_term_requires : tie.Need-with_term-requires
+with_term_requires c κs = search rules
 
-with-term-requires-2 : tie.Need-with-term-requires-2
-with-term-requires-2 c κs = search rules
+with_term_requires_2 : tie.Need-with_term-requires-2
+with_term_requires_2 c κs = search rules
 
 returns : tie.Need-returns
 returns c =
-    let s = c.before.before.before in
-    let a = s.before.before.before.args in
+    let s = c in
+    let a = s.args in
     access_joined a.set a.x (shape_of a.spec)
-    s.segment-of.ensures s.before.before.base-of.ensures s.before.index_of.ensures
-    c.before.before.with-segment.ensures c.before.with-term.ensures c.with-term2.ensures
+    s.segment_of-segment.ensures s.base_of-base.ensures s.index_of-index.ensures
+    c.with_segment.ensures c.with_term.ensures c.with_term-2.ensures
 
-pub with-access-spec : {M : Type 1} → statement M
-with-access-spec =
+pub with_access_spec : {M : Type 1} → statement M
+with_access_spec =
     tie.close
     (tie.spec
-    base-of-requires
-    index-of-requires
-    segment-of-requires
-    with-segment-requires
-    with-term-requires
-    with-term-requires-2
+    base_of_requires
+    index_of_requires
+    segment_of_requires
+    with_segment_requires
+    with_term_requires
+    with_term_requires_2
     returns)

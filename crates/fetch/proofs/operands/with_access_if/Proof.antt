@@ -3,15 +3,15 @@ use Rattle.sets.specs.Sets.{joined}
 use Rattle.fetch.proofs.operands.with_access_if.Statement.{statement}
 use Rattle.fetch.proofs.operands.with_access_if.Tie as tie
 
-with-access-requires : tie.Need-with-access-requires
-with-access-requires c κs = search rules
+with_access_requires : tie.Need-with_access-requires
+with_access_requires c κs = search rules
 
-returns : tie.Need-returns
-returns c = rw c.before.if1.true c.with-access.ensures
+returns : tie.Need-returns-then-on
+returns c = rw c.if-on.true c.with_access.ensures
 
-returns-2 : tie.Need-returns-2
+returns_2 : tie.Need-returns-else-on
 unfolding joined
-returns-2 c = rw c.if1.false
+returns_2 c = rw c.if-on.false
 
-pub with-access-if-spec : {M : Type 1} → statement M
-with-access-if-spec = tie.close (tie.spec with-access-requires returns returns-2)
+pub with_access_if_spec : {M : Type 1} → statement M
+with_access_if_spec = tie.close (tie.spec with_access_requires returns returns_2)

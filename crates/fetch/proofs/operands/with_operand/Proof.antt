@@ -8,47 +8,47 @@ use Rattle.fetch.proofs.Parts.{operand_joined}
 use Rattle.fetch.proofs.operands.with_operand.Statement.{statement}
 use Rattle.fetch.proofs.operands.with_operand.Tie as tie
 
-operand-access-requires : tie.Need-operand-access-requires
-operand-access-requires c κs = search rules
+operand_access_requires : tie.Need-operand_access-access-requires
+operand_access_requires c κs = search rules
 
-spec-requires : tie.Need-spec-requires
-spec-requires c κs = search rules
+spec_requires : tie.Need-spec-spec-requires
+spec_requires c κs = search rules
 
-is-read-requires : tie.Need-is-read-requires
-is-read-requires c κs = search rules
+is_read_requires : tie.Need-is_read-requires
+is_read_requires c κs = search rules
 
-loads-requires : tie.Need-loads-requires
-loads-requires c κs = search rules
+loads_requires : tie.Need-loads-loading-requires
+loads_requires c κs = search rules
 
-with-access-if-requires : tie.Need-with-access-if-requires
-with-access-if-requires c κs = search rules
+with_access_if_requires : tie.Need-with_access_if-loaded-requires
+with_access_if_requires c κs = search rules
 
-is-write-requires : tie.Need-is-write-requires
-is-write-requires c κs = search rules
+is_write_requires : tie.Need-is_write-requires
+is_write_requires c κs = search rules
 
-with-access-if-requires-2 : tie.Need-with-access-if-requires-2
-with-access-if-requires-2 c κs = search rules
+with_access_if_requires_2 : tie.Need-with_access_if-requires
+with_access_if_requires_2 c κs = search rules
 
 returns : tie.Need-returns
 returns c =
-    let a = c.before.before.before.before.before.before.before.before.args in
-    let number = operand_number a.x.digest a.i c.before.before.before.before.before.before.operand-access.ensures in
-    let shaped = c.before.before.before.before.before.spec.ensures in
+    let a = c.args in
+    let number = operand_number a.x.digest a.i c.operand_access-access.ensures in
+    let shaped = c.spec-spec.ensures in
     operand_joined a.set a.x (operand_at a.x a.i)
-    (c.before.before.before.loads.ensures ∙ ap (loads_at a.x) (c.before.before.before.before.is_read.ensures ∙ ap reading number))
-    (c.before.is-write.ensures ∙ ap writing number)
-    (rw shaped at c.before.before.with-access-if.ensures)
-    (rw shaped at c.with-access-if2.ensures)
+    (c.loads-loading.ensures ∙ ap (loads_at a.x) (c.is_read.ensures ∙ ap reading number))
+    (c.is_write.ensures ∙ ap writing number)
+    (rw shaped at c.with_access_if-loaded.ensures)
+    (rw shaped at c.with_access_if.ensures)
 
-pub with-operand-spec : {M : Type 1} → statement M
-with-operand-spec =
+pub with_operand_spec : {M : Type 1} → statement M
+with_operand_spec =
     tie.close
     (tie.spec
-    operand-access-requires
-    spec-requires
-    is-read-requires
-    loads-requires
-    with-access-if-requires
-    is-write-requires
-    with-access-if-requires-2
+    operand_access_requires
+    spec_requires
+    is_read_requires
+    loads_requires
+    with_access_if_requires
+    is_write_requires
+    with_access_if_requires_2
     returns)

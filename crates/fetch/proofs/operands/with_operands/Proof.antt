@@ -13,51 +13,51 @@ use Rattle.fetch.proofs.Parts.{none_left, one_joined}
 use Rattle.fetch.proofs.operands.with_operands.Statement.{statement}
 use Rattle.fetch.proofs.operands.with_operands.Tie as tie
 
-abbrev invariant-loop : tie.invariant-loop
+abbrev invariant-loop : tie.invariant-loop-i
 invariant-loop set x count joined₀ i₀ joined' i =
     joined joined' (each (operand_needs x) (drop i (operands_of x))) ≡ joined set (each (operand_needs x) (operands_of x))
 
-abbrev decreases-loop : tie.decreases-loop
+abbrev decreases-loop : tie.decreases-loop-i
 decreases-loop set x count joined₀ i₀ joined' i = 4 - i
 
-loop-holds : tie.Need-loop-init invariant-loop decreases-loop
-loop-holds c = refl
+loop_holds : tie.Need-loop-i-init invariant-loop decreases-loop
+loop_holds c = refl
 
-returns : tie.Need-returns invariant-loop decreases-loop
+returns : tie.Need-returns-then-count-i invariant-loop decreases-loop
 returns c =
-    let x = c.before.before.before.args.x in
-    none_left x c.before.before.loop.i c.before.before.loop.joined (omega (arith, operands_length x)) ∙ c.before.before.loop.invariant
+    let x = c.args.x in
+    none_left x c.loop-i.i c.loop-i.joined (omega (arith, operands_length x)) ∙ c.loop-i.invariant
 
-with-operand-requires : tie.Need-with-operand-requires invariant-loop decreases-loop
-with-operand-requires c κs = tt
+with_operand_requires : tie.Need-with_operand-joined-requires invariant-loop decreases-loop
+with_operand_requires c κs = tt
 
-add-i : tie.Need-overflow-add-i invariant-loop decreases-loop
-add-i c = omega arith
+add_i : tie.Need-overflow_add-i invariant-loop decreases-loop
+add_i c = omega arith
 
-loop-less : tie.Need-loop-smaller invariant-loop decreases-loop
-loop-less c = omega arith
+loop_less : tie.Need-loop-i-smaller invariant-loop decreases-loop
+loop_less c = omega arith
 
-loop-again : tie.Need-loop-preserved invariant-loop decreases-loop
-loop-again c =
-    let x = c.before.before.before.before.args.x in
-    let l = c.before.before.before.loop in
-    one_joined x l.i l.joined (omega (arith, operands_length x)) c.with-operand.ensures ∙ l.invariant
+loop_again : tie.Need-loop-i-preserved invariant-loop decreases-loop
+loop_again c =
+    let x = c.args.x in
+    let l = c.loop-i in
+    one_joined x l.i l.joined (omega (arith, operands_length x)) c.with_operand-joined.ensures ∙ l.invariant
 
-returns-2 : tie.Need-returns-2 invariant-loop decreases-loop
-returns-2 c =
-    let x = c.before.before.args.x in
-    none_left x c.before.loop.i c.before.loop.joined (omega (arith, operands_length x)) ∙ c.before.loop.invariant
+returns_2 : tie.Need-returns invariant-loop decreases-loop
+returns_2 c =
+    let x = c.args.x in
+    none_left x c.loop-i.i c.loop-i.joined (omega (arith, operands_length x)) ∙ c.loop-i.invariant
 
-pub with-operands-spec : {M : Type 1} → statement M
-with-operands-spec =
+pub with_operands_spec : {M : Type 1} → statement M
+with_operands_spec =
     tie.close
     (tie.spec
     invariant-loop
     decreases-loop
-    loop-holds
+    loop_holds
     returns
-    with-operand-requires
-    add-i
-    loop-less
-    loop-again
-    returns-2)
+    with_operand_requires
+    add_i
+    loop_less
+    loop_again
+    returns_2)

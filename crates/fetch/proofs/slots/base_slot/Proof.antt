@@ -5,16 +5,16 @@ use Rattle.registers.specs.Files.{part_of}
 use Rattle.fetch.proofs.slots.base_slot.Statement.{statement}
 use Rattle.fetch.proofs.slots.base_slot.Tie as tie
 
-add-result : tie.Need-overflow-add-result
-add-result c = search rules
+add_result : tie.Need-overflow_add-result
+add_result c = search rules
 
-returns : tie.Need-returns
+returns : tie.Need-returns-then-number-lt2
 unfolding part_of is_logged
-returns c = rw (lt-ltb c.before.args.number 2 c.if1.true)
+returns c = rw (lt-ltb c.args.number 2 c.if-number-lt2.true)
 
-returns-2 : tie.Need-returns-2
+returns_2 : tie.Need-returns-else-number-lt2
 unfolding part_of is_logged
-returns-2 c = rw (le-ltb c.before.args.number 2 c.if1.false)
+returns_2 c = rw (le-ltb c.args.number 2 c.if-number-lt2.false)
 
-pub base-slot-spec : {M : Type 1} → statement M
-base-slot-spec = tie.close (tie.spec add-result returns returns-2)
+pub base_slot_spec : {M : Type 1} → statement M
+base_slot_spec = tie.close (tie.spec add_result returns returns_2)

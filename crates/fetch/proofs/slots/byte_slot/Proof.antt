@@ -5,17 +5,17 @@ use Rattle.registers.specs.Files.{part_of}
 use Rattle.fetch.proofs.slots.byte_slot.Statement.{statement}
 use Rattle.fetch.proofs.slots.byte_slot.Tie as tie
 
-returns : tie.Need-returns
+returns : tie.Need-returns-then-number-lt4
 unfolding part_of is_logged
-returns c = let n = c.before.args.number in rw (lt-ltb n 8 (omega arith), lt-ltb n 4 c.if1.true)
+returns c = let n = c.args.number in rw (lt-ltb n 8 (omega arith), lt-ltb n 4 c.if-number-lt4.true)
 
-returns-2 : tie.Need-returns-2
+returns_2 : tie.Need-returns-then-number-lt8
 unfolding part_of is_logged
-returns-2 c = let n = c.before.before.args.number in rw (lt-ltb n 8 c.if2.true, le-ltb n 4 c.before.if1.false)
+returns_2 c = let n = c.args.number in rw (lt-ltb n 8 c.if-number-lt8.true, le-ltb n 4 c.if-number-lt4.false)
 
-returns-3 : tie.Need-returns-3
+returns_3 : tie.Need-returns-else-number-lt8
 unfolding part_of is_logged
-returns-3 c = rw (le-ltb c.before.before.args.number 8 c.if2.false)
+returns_3 c = rw (le-ltb c.args.number 8 c.if-number-lt8.false)
 
-pub byte-slot-spec : {M : Type 1} → statement M
-byte-slot-spec = tie.close (tie.spec returns returns-2 returns-3)
+pub byte_slot_spec : {M : Type 1} → statement M
+byte_slot_spec = tie.close (tie.spec returns returns_2 returns_3)

@@ -8,56 +8,56 @@ use Rattle.fetch.proofs.Held.{general_slot, pointer_slot, vector_slot, other_slo
 use Rattle.fetch.proofs.slots.slot_of.Statement.{statement}
 use Rattle.fetch.proofs.slots.slot_of.Tie as tie
 
-byte-slot-requires : tie.Need-byte-slot-requires
-byte-slot-requires c κs = search rules
+byte_slot_requires : tie.Need-byte_slot-requires
+byte_slot_requires c κs = search rules
 
-base-slot-requires : tie.Need-base-slot-requires
-base-slot-requires c κs = search rules
+base_slot_requires : tie.Need-base_slot-requires
+base_slot_requires c κs = search rules
 
-slot-below-requires : tie.Need-slot-below-requires
-slot-below-requires c κs = search rules
+slot_below_requires : tie.Need-slot_below-requires
+slot_below_requires c κs = search rules
 
-slot-below-requires-2 : tie.Need-slot-below-requires-2
-slot-below-requires-2 c κs = search rules
+slot_below_requires_2 : tie.Need-slot_below-requires-in-9-to-10
+slot_below_requires_2 c κs = search rules
 
-returns : tie.Need-returns
+returns : tie.Need-returns-in-4
 returns c =
-    let y = c.before.before.args.y in
-    c.byte-slot.ensures ∙ ap (λ (b : ℕ). (part_of (reg b y.number)).slot) (sym c.before.match.keys1)
+    let y = c.args.y in
+    c.byte_slot.ensures ∙ ap (λ (b : ℕ). (part_of (reg b y.number)).slot) (sym c.in-4.is)
 
-returns-2 : tie.Need-returns-2
-returns-2 c =
-    let y = c.before.before.args.y in
-    c.base-slot.ensures ∙ ap (λ (b : ℕ). (part_of (reg b y.number)).slot) (sym c.before.match.keys2)
+returns_2 : tie.Need-returns-in-13
+returns_2 c =
+    let y = c.args.y in
+    c.base_slot.ensures ∙ ap (λ (b : ℕ). (part_of (reg b y.number)).slot) (sym c.in-13.is)
 
-returns-3 : tie.Need-returns-3
-returns-3 c = let y = c.before.before.before.args.y in c.slot_below.ensures ∙ general_slot y.bank y.number (omega arith)
+returns_3 : tie.Need-returns-in-0-to-3
+returns_3 c = let y = c.args.y in c.slot_below.ensures ∙ general_slot y.bank y.number (omega arith)
 
-returns-4 : tie.Need-returns-4
-returns-4 c =
-    let y = c.before.before.before.before.before.args.y in
-    c.slot-below2.ensures ∙ pointer_slot y.bank y.number (omega arith) (omega arith)
+returns_4 : tie.Need-returns-in-9-to-10
+returns_4 c =
+    let y = c.args.y in
+    c.slot_below-in-9-to-10.ensures ∙ pointer_slot y.bank y.number (omega arith) (omega arith)
 
-returns-5 : tie.Need-returns-5
-returns-5 c = let y = c.before.before.before.args.y in vector_slot y.bank y.number (omega arith) (omega arith)
+returns_5 : tie.Need-returns-in_default
+returns_5 c = let y = c.args.y in vector_slot y.bank y.number (omega arith) (omega arith)
 
-returns-6 : tie.Need-returns-6
-returns-6 c =
-    let y = c.before.before.before.before.args.y in
-    let ne = c.before.before.before.match.rest.1 in
+returns_6 : tie.Need-returns-in_default-2
+returns_6 c =
+    let y = c.args.y in
+    let ne = c.in_default.in_default-own.rest.1 in
     other_slot y.bank y.number (omega arith) ne
 
-pub slot-of-spec : {M : Type 1} → statement M
-slot-of-spec =
+pub slot_of_spec : {M : Type 1} → statement M
+slot_of_spec =
     tie.close
     (tie.spec
-    byte-slot-requires
-    base-slot-requires
-    slot-below-requires
-    slot-below-requires-2
+    byte_slot_requires
+    base_slot_requires
+    slot_below_requires
+    slot_below_requires_2
     returns
-    returns-2
-    returns-3
-    returns-4
-    returns-5
-    returns-6)
+    returns_2
+    returns_3
+    returns_4
+    returns_5
+    returns_6)

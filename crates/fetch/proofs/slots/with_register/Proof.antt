@@ -5,19 +5,19 @@ use Rattle.fetching.specs.Needs.{slots_of}
 use Rattle.fetch.proofs.slots.with_register.Statement.{statement}
 use Rattle.fetch.proofs.slots.with_register.Tie as tie
 
-slot-of-requires : tie.Need-slot-of-requires
-slot-of-requires c κs = search rules
+slot_of_requires : tie.Need-slot_of-slot-requires
+slot_of_requires c κs = search rules
 
-with-requires : tie.Need-with-requires
-with-requires c κs = search rules
+with_requires : tie.Need-with-requires
+with_requires c κs = search rules
 
-returns : tie.Need-returns
+returns : tie.Need-returns-then-slot-lt-HELD
 unfolding slots_of joined
-returns c = rw (← c.before.before.slot_of.ensures, lt-ltb _ _ c.before.if1.true) c.with.ensures
+returns c = rw (← c.slot_of-slot.ensures, lt-ltb _ _ c.if-slot-lt-HELD.true) c.with.ensures
 
-returns-2 : tie.Need-returns-2
+returns_2 : tie.Need-returns-else-slot-lt-HELD
 unfolding slots_of joined
-returns-2 c = rw (← c.before.slot_of.ensures, le-ltb _ _ c.if1.false)
+returns_2 c = rw (← c.slot_of-slot.ensures, le-ltb _ _ c.if-slot-lt-HELD.false)
 
-pub with-register-spec : {M : Type 1} → statement M
-with-register-spec = tie.close (tie.spec slot-of-requires with-requires returns returns-2)
+pub with_register_spec : {M : Type 1} → statement M
+with_register_spec = tie.close (tie.spec slot_of_requires with_requires returns returns_2)

@@ -7,46 +7,46 @@ use Rattle.fetching.specs.Needs.{slots_of}
 use Rattle.fetch.proofs.slots.with_term.Statement.{statement}
 use Rattle.fetch.proofs.slots.with_term.Tie as tie
 
-enum_told : tie.Need-enum-told
+enum_told : tie.Need-enum_told-1
 enum_told c = search rules
 
-enum-known-t : tie.Need-enum-known-t
-enum-known-t c = search rules
+enum_known_t : tie.Need-enum_known-t
+enum_known_t c = search rules
 
-with-register-requires : tie.Need-with-register-requires
-with-register-requires c κs = search rules
+with_register_requires : tie.Need-with_register-requires
+with_register_requires c κs = search rules
 
-enum-known-t-2 : tie.Need-enum-known-t-2
-enum-known-t-2 c = search rules
+enum_known_t_2 : tie.Need-enum_known-t-in-Scaled-1
+enum_known_t_2 c = search rules
 
-with-register-requires-2 : tie.Need-with-register-requires-2
-with-register-requires-2 c κs = search rules
+with_register_requires_2 : tie.Need-with_register-requires-in-Scaled
+with_register_requires_2 c κs = search rules
 
-returns : tie.Need-returns
+returns : tie.Need-returns-in-Absent
 unfolding each joined term_registers
-returns c = rw c.enum_told.given.1
+returns c = rw c.in-Absent.is
 
-returns-2 : tie.Need-returns-2
+returns_2 : tie.Need-returns-in-Plain
 unfolding each term_registers
-returns-2 c =
-    let y = c.before.before.t.given.0.0 in
-    rw (c.before.before.t.given.1, append-nil (slots_of y)) c.with-register.ensures
+returns_2 c =
+    let y = c.in-Plain.y in
+    rw (c.in-Plain.is, append-nil (slots_of y)) c.with_register.ensures
 
-returns-3 : tie.Need-returns-3
+returns_3 : tie.Need-returns-in-Scaled
 unfolding each term_registers
-returns-3 c =
-    let y = c.before.before.t2.given.0.0 in
-    rw (c.before.before.t2.given.1, append-nil (slots_of y)) c.with-register2.ensures
+returns_3 c =
+    let y = c.in-Scaled.y in
+    rw (c.in-Scaled.is, append-nil (slots_of y)) c.with_register-in-Scaled.ensures
 
-pub with-term-spec : {M : Type 1} → statement M
-with-term-spec =
+pub with_term_spec : {M : Type 1} → statement M
+with_term_spec =
     tie.close
     (tie.spec
     enum_told
-    enum-known-t
-    with-register-requires
-    enum-known-t-2
-    with-register-requires-2
+    enum_known_t
+    with_register_requires
+    enum_known_t_2
+    with_register_requires_2
     returns
-    returns-2
-    returns-3)
+    returns_2
+    returns_3)

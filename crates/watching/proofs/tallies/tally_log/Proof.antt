@@ -13,86 +13,86 @@ use Rattle.watching.proofs.Counted.{begun, goes, ends}
 use Rattle.watching.proofs.tallies.tally_log.Statement.{statement}
 use Rattle.watching.proofs.tallies.tally_log.Tie as tie
 
-abbrev invariant-loop : tie.invariant-loop
+abbrev invariant-loop : tie.invariant-loop-e
 invariant-loop v log at₀ t₀ at t =
     (at ≤ length log) × (total t ≤ at)
     × (tally_of (map (verdict_of v) (events_in log)) ≡ summed t (tally_of (map (verdict_of v) (left log at))))
 
-abbrev decreases-loop : tie.decreases-loop
+abbrev decreases-loop : tie.decreases-loop-e
 decreases-loop v log at₀ t₀ at t = length log - at
 
-zero-requires : tie.Need-zero-requires invariant-loop decreases-loop
-zero-requires c κs = tt
+zero_requires : tie.Need-zero-t-requires invariant-loop decreases-loop
+zero_requires c κs = tt
 
-loop-holds : tie.Need-loop-init invariant-loop decreases-loop
-loop-holds c =
-    let x = c.before.before.args in
-    rw c.zero.ensures
+loop_holds : tie.Need-loop-e-init invariant-loop decreases-loop
+loop_holds c =
+    let x = c.args in
+    rw c.zero-t.ensures
     (zero-le, zero-le, begun x.v x.log.now)
 
-read-event-requires : tie.Need-read-event-requires invariant-loop decreases-loop
-read-event-requires c κs = tt
+read_event_requires : tie.Need-read_event-r-requires invariant-loop decreases-loop
+read_event_requires c κs = tt
 
-enum-known-r : tie.Need-enum-known-r invariant-loop decreases-loop
-enum-known-r c = search rules
+enum_known_r : tie.Need-enum_known-r invariant-loop decreases-loop
+enum_known_r c = search rules
 
-returns : tie.Need-returns invariant-loop decreases-loop
+returns : tie.Need-returns-in_default invariant-loop decreases-loop
 returns c =
-    let l = c.before.before.loop in
-    let x = c.before.before.before.before.before.args in
-    ends x.v x.log.now l.at c.before.read-event.result l.t c.before.read-event.ensures c.match.keys2 ∙ sym l.invariant.2
+    let l = c.loop-e in
+    let x = c.args in
+    ends x.v x.log.now l.at c.read_event-r.result l.t c.read_event-r.ensures c.in_default.in_default-own.keys2 ∙ sym l.invariant.2
 
 -- what was read: an event that ends further on, within the log
 read :
-    (c : tie.After-known-told invariant-loop decreases-loop)
-    → read_at c.before.before.before.before.before.before.before.args.log.now c.before.before.before.before.loop.at ≡ Found c.before.r.given.0.0 c.before.r.given.0.1.0
-read c = sym c.before.before.before.read-event.ensures ∙ c.before.r.given.1
+    (c : tie.In-Found invariant-loop decreases-loop)
+    → read_at c.args.log.now c.loop-e.at ≡ Found c.in-Found.e c.in-Found.next
+read c = sym c.read_event-r.ensures ∙ c.in-Found.is
 
 further :
-    (c : tie.After-known-told invariant-loop decreases-loop)
-    → (c.before.before.before.before.loop.at < c.before.r.given.0.1.0) × (c.before.r.given.0.1.0 ≤ length c.before.before.before.before.before.before.before.args.log.now)
+    (c : tie.In-Found invariant-loop decreases-loop)
+    → (c.loop-e.at < c.in-Found.next) × (c.in-Found.next ≤ length c.args.log.now)
 further c =
-    let log = c.before.before.before.before.before.before.before.args.log.now in
-    let at = c.before.before.before.before.loop.at in
+    let log = c.args.log.now in
+    let at = c.loop-e.at in
     subst (Moves log at) (read c) (goes_on_lem log at)
 
-verdict-on-requires : tie.Need-verdict-on-requires invariant-loop decreases-loop
-verdict-on-requires c κs = (c.before.before.before.before.before.before.before.requires, read_good c.before.before.before.before.before.before.before.args.log.now c.before.before.before.before.loop.at (read c))
+verdict_on_requires : tie.Need-verdict_on-requires invariant-loop decreases-loop
+verdict_on_requires c κs = (c.requires, read_good c.args.log.now c.loop-e.at (read c))
 
-counting-requires : tie.Need-counting-requires invariant-loop decreases-loop
-counting-requires c κs =
-    let l = c.before.before.before.before.before.loop in
+counting_requires : tie.Need-counting-t-requires invariant-loop decreases-loop
+counting_requires c κs =
+    let l = c.loop-e in
     let m = further c.before in
-    let k : c.before.before.r.given.0.1.0 < 2 ^ 64 = search rules in omega (arith, l.invariant.1, m.0, k)
+    let k : c.in-Found.next < 2 ^ 64 = search rules in omega (arith, l.invariant.1, m.0, k)
 
-loop-less : tie.Need-loop-smaller invariant-loop decreases-loop
-loop-less c = let m = further c.before.before in omega (arith, m)
+loop_less : tie.Need-loop-e-smaller invariant-loop decreases-loop
+loop_less c = let m = further c.before.before in omega (arith, m)
 
-loop-again : tie.Need-loop-preserved invariant-loop decreases-loop
-loop-again c =
+loop_again : tie.Need-loop-e-preserved invariant-loop decreases-loop
+loop_again c =
     let d = c.before.before in
-    let l = d.before.before.before.before.loop in
-    let x = d.before.before.before.before.before.before.before.args in
+    let l = d.loop-e in
+    let x = d.args in
     let m = further d in (
       m.1,
-      rw c.counting.ensures (omega (arith, counting_most c.before.verdict-on.result l.t, l.invariant.1, m.0)),
+      rw c.counting-t.ensures (omega (arith, counting_most c.verdict_on.result l.t, l.invariant.1, m.0)),
       l.invariant.2
-          ∙ goes x.v x.log.now l.at d.before.r.given.0.1.0 d.before.r.given.0.0 c.before.verdict-on.result l.t c.counting.result
-          (read d) c.before.verdict-on.ensures c.counting.ensures,
+          ∙ goes x.v x.log.now l.at d.in-Found.next d.in-Found.e c.verdict_on.result l.t c.counting-t.result
+          (read d) c.verdict_on.ensures c.counting-t.ensures,
     )
 
-pub tally-log-spec : {M : Type 1} → statement M
-tally-log-spec =
+pub tally_log_spec : {M : Type 1} → statement M
+tally_log_spec =
     tie.close
     (tie.spec
     invariant-loop
     decreases-loop
-    zero-requires
-    loop-holds
-    read-event-requires
-    enum-known-r
+    zero_requires
+    loop_holds
+    read_event_requires
+    enum_known_r
     returns
-    verdict-on-requires
-    counting-requires
-    loop-less
-    loop-again)
+    verdict_on_requires
+    counting_requires
+    loop_less
+    loop_again)

@@ -4,11 +4,11 @@ use borrow.Author.Tests.{lt-leb}
 use Rattle.watching.proofs.verdicts.is_length.Statement.{statement}
 use Rattle.watching.proofs.verdicts.is_length.Tie as tie
 
-returns : tie.Need-returns
-returns c = simp (le-leb _ _ c.if1.true)
+returns : tie.Need-returns-then-n-ge1
+returns c = simp (le-leb _ _ c.if-n-ge1.true)
 
-returns-2 : tie.Need-returns-2
-returns-2 c = simp (lt-leb _ _ c.if1.false)
+returns_2 : tie.Need-returns-else-n-ge1
+returns_2 c = simp (lt-leb _ _ c.if-n-ge1.false)
 
-pub is-length-spec : {M : Type 1} → statement M
-is-length-spec = tie.close (tie.spec returns returns-2)
+pub is_length_spec : {M : Type 1} → statement M
+is_length_spec = tie.close (tie.spec returns returns_2)

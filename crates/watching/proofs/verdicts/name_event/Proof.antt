@@ -7,54 +7,54 @@ use Rattle.watching.proofs.verdicts.name_event.Statement.{statement}
 use Rattle.watching.proofs.verdicts.name_event.Tie as tie
 
 -- the length was found good
-good : (c : tie.Then1) → is_length c.before.before.before.args.v.length ≡ true
-good c = sym c.before.is-length.ensures ∙ c.if1.true
+good : (c : tie.Then-is_length) → is_length c.args.v.length ≡ true
+good c = sym c.is_length.ensures ∙ c.if-is_length.true
 
-is-length-requires : tie.Need-is-length-requires
-is-length-requires c κs = search rules
+is_length_requires : tie.Need-is_length-requires
+is_length_requires c κs = search rules
 
-read-event-requires : tie.Need-read-event-requires
-read-event-requires c κs = search rules
+read_event_requires : tie.Need-read_event-r-requires
+read_event_requires c κs = search rules
 
-enum-known-r : tie.Need-enum-known-r
-enum-known-r c = search rules
+enum_known_r : tie.Need-enum_known-r
+enum_known_r c = search rules
 
-verdict-on-requires : tie.Need-verdict-on-requires
-verdict-on-requires c κs = (good c.before.before.before.before, let x = c.before.before.before.before.before.before.before.args in read_good x.log.now x.at (sym c.before.before.before.read-event.ensures ∙ c.before.r.given.1))
+verdict_on_requires : tie.Need-verdict_on-requires
+verdict_on_requires c κs = (good c.before.before, let x = c.args in read_good x.log.now x.at (sym c.read_event-r.ensures ∙ c.in-Found.is))
 
-touched-by-requires : tie.Need-touched-by-requires
-touched-by-requires c κs = good c.before.before.before.before.before
+touched_by_requires : tie.Need-touched_by-requires
+touched_by_requires c κs = good c.before.before.before
 
-enum-known-r-2 : tie.Need-enum-known-r-2
-enum-known-r-2 c = search rules
+enum_known_r_2 : tie.Need-enum_known-r-in-Bad-1
+enum_known_r_2 c = search rules
 
-enum_told : tie.Need-enum-told
+enum_told : tie.Need-enum_told-1
 enum_told c = search rules
 
-returns : tie.Need-returns
-returns c = let x = c.before.before.before.before.before.before.before.before.before.args in rw (c.before.verdict-on.ensures, c.touched-by.ensures) (named x.v x.log.now x.at (Found c.before.before.before.r.given.0.0 c.before.before.before.r.given.0.1.0) (good c.before.before.before.before.before.before) (sym c.before.before.before.before.before.read-event.ensures ∙ c.before.before.before.r.given.1))
+returns : tie.Need-returns-in-Found
+returns c = let x = c.args in rw (c.verdict_on.ensures, c.touched_by.ensures) (named x.v x.log.now x.at (Found c.in-Found.e c.in-Found.next) (good c.before.before.before.before) (sym c.read_event-r.ensures ∙ c.in-Found.is))
 
-returns-2 : tie.Need-returns-2
-returns-2 c = let x = c.before.before.before.before.before.before.before.args in named x.v x.log.now x.at (Bad c.before.r2.given.0.0) (good c.before.before.before.before) (sym c.before.before.before.read-event.ensures ∙ c.before.r2.given.1)
+returns_2 : tie.Need-returns-in-Bad
+returns_2 c = let x = c.args in named x.v x.log.now x.at (Bad c.in-Bad.number) (good c.before.before) (sym c.read_event-r.ensures ∙ c.in-Bad.is)
 
-returns-3 : tie.Need-returns-3
-returns-3 c = let x = c.before.before.before.before.before.before.args in named x.v x.log.now x.at Finished (good c.before.before.before) (sym c.before.before.read-event.ensures ∙ c.enum_told.given.1)
+returns_3 : tie.Need-returns-in-Finished
+returns_3 c = let x = c.args in named x.v x.log.now x.at Finished (good c.before.before) (sym c.read_event-r.ensures ∙ c.in-Finished.is)
 
-returns-4 : tie.Need-returns-4
-returns-4 c = let x = c.before.before.before.args in unnamed x.v x.log.now x.at (sym c.before.is-length.ensures ∙ c.if1.false)
+returns_4 : tie.Need-returns-else-is_length
+returns_4 c = let x = c.args in unnamed x.v x.log.now x.at (sym c.is_length.ensures ∙ c.if-is_length.false)
 
-pub name-event-spec : {M : Type 1} → statement M
-name-event-spec =
+pub name_event_spec : {M : Type 1} → statement M
+name_event_spec =
     tie.close
     (tie.spec
-    is-length-requires
-    read-event-requires
-    enum-known-r
-    verdict-on-requires
-    touched-by-requires
-    enum-known-r-2
+    is_length_requires
+    read_event_requires
+    enum_known_r
+    verdict_on_requires
+    touched_by_requires
+    enum_known_r_2
     enum_told
     returns
-    returns-2
-    returns-3
-    returns-4)
+    returns_2
+    returns_3
+    returns_4)

@@ -12,56 +12,56 @@ use Rattle.watching.proofs.verdicts.store_touched.Tie as tie
 abbrev touching : (v : Variable) (a n : ℕ) → ℕ → Bool
 touching v a n i = is_in ((v.address + i) % word) (bytes_from a n)
 
-abbrev invariant-loop : tie.invariant-loop
+abbrev invariant-loop : tie.invariant-loop-i
 invariant-loop v a n i₀ bits₀ i bits = (i ≤ v.length) × (bits ≡ bits_from (touching v a n) i (v.length - i))
 
-abbrev decreases-loop : tie.decreases-loop
+abbrev decreases-loop : tie.decreases-loop-i
 decreases-loop v a n i₀ bits₀ i bits = i
 
-loop-holds : tie.Need-loop-init invariant-loop decreases-loop
-loop-holds c = let x = c.args in (le_refl x.v.length, none_left (touching x.v x.a x.n) x.v.length)
+loop_holds : tie.Need-loop-i-init invariant-loop decreases-loop
+loop_holds c = let x = c.args in (le_refl x.v.length, none_left (touching x.v x.a x.n) x.v.length)
 
-sub-i : tie.Need-overflow-sub-i invariant-loop decreases-loop
-sub-i c = search rules
+sub_i : tie.Need-overflow_sub-i invariant-loop decreases-loop
+sub_i c = search rules
 
-touches-requires : tie.Need-touches-requires invariant-loop decreases-loop
-touches-requires c κs = tt
+touches_requires : tie.Need-touches-requires invariant-loop decreases-loop
+touches_requires c κs = tt
 
-with-low-requires : tie.Need-with-low-requires invariant-loop decreases-loop
-with-low-requires c κs =
-    let l = c.before.before.loop in
-    let s = c.before.before.before in
-    rw l.invariant.1 (bits_few (touching s.args.v s.args.a s.args.n) s.args.v.length l.i s.requires c.before.loop-test.true)
+with_low_requires : tie.Need-with_low-bits-requires invariant-loop decreases-loop
+with_low_requires c κs =
+    let l = c.loop-i in
+    let s = c in
+    rw l.invariant.1 (bits_few (touching s.args.v s.args.a s.args.n) s.args.v.length l.i s.requires c.loop-i-test.true)
 
-loop-less : tie.Need-loop-smaller invariant-loop decreases-loop
-loop-less c = omega arith
+loop_less : tie.Need-loop-i-smaller invariant-loop decreases-loop
+loop_less c = omega arith
 
-loop-again : tie.Need-loop-preserved invariant-loop decreases-loop
-loop-again c =
-    let l = c.before.before.before.loop in
-    let x = c.before.before.before.before.args in (
+loop_again : tie.Need-loop-i-preserved invariant-loop decreases-loop
+loop_again c =
+    let l = c.loop-i in
+    let x = c.args in (
       omega (arith, l.invariant.0),
-      c.with-low.ensures
-          ∙ rw (l.invariant.1, c.before.touches.ensures) (sym (bits_more (touching x.v x.a x.n) l.i x.v.length (omega arith) l.invariant.0)),
+      c.with_low-bits.ensures
+          ∙ rw (l.invariant.1, c.touches.ensures) (sym (bits_more (touching x.v x.a x.n) l.i x.v.length (omega arith) l.invariant.0)),
     )
 
 returns : tie.Need-returns invariant-loop decreases-loop
 unfolding store_touched
 returns c =
-    let l = c.before.loop in
-    let x = c.before.before.args in
+    let l = c.loop-i in
+    let x = c.args in
     l.invariant.1 ∙ all_done (touching x.v x.a x.n) x.v.length l.i (omega arith)
 
-pub store-touched-spec : {M : Type 1} → statement M
-store-touched-spec =
+pub store_touched_spec : {M : Type 1} → statement M
+store_touched_spec =
     tie.close
     (tie.spec
     invariant-loop
     decreases-loop
-    loop-holds
-    sub-i
-    touches-requires
-    with-low-requires
-    loop-less
-    loop-again
+    loop_holds
+    sub_i
+    touches_requires
+    with_low_requires
+    loop_less
+    loop_again
     returns)

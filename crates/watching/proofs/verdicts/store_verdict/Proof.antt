@@ -5,45 +5,45 @@ use Rattle.watching.proofs.verdicts.store_verdict.Statement.{statement}
 use Rattle.watching.proofs.verdicts.store_verdict.Tie as tie
 
 -- the two distances
-after : (c : tie.After-wrapping-sub-u64) → let x = c.before.args in c.wrapping-sub-u64.result ≡ behind x.v.address x.a
+after : (c : tie.After-wrapping_sub_u64-after) → let x = c.args in c.wrapping_sub_u64-after.result ≡ behind x.v.address x.a
 after c =
-    let x = c.before.args in
-    subtracted c.wrapping-sub-u64.result x.v.address x.a (search rules) (search rules) c.wrapping-sub-u64.ensures
+    let x = c.args in
+    subtracted c.wrapping_sub_u64-after.result x.v.address x.a (search rules) (search rules) c.wrapping_sub_u64-after.ensures
 
-before : (c : tie.After-wrapping-sub-u642) → let x = c.before.before.before.args in c.wrapping-sub-u642.result ≡ behind x.a x.v.address
+before : (c : tie.After-wrapping_sub_u64-before) → let x = c.args in c.wrapping_sub_u64-before.result ≡ behind x.a x.v.address
 before c =
-    let x = c.before.before.before.args in
-    subtracted c.wrapping-sub-u642.result x.a x.v.address (search rules) (search rules) c.wrapping-sub-u642.ensures
+    let x = c.args in
+    subtracted c.wrapping_sub_u64-before.result x.a x.v.address (search rules) (search rules) c.wrapping_sub_u64-before.ensures
 
-wrapping-sub-u64-requires : tie.Need-wrapping-sub-u64-requires
-wrapping-sub-u64-requires c κs = search rules
+wrapping_sub_u64_requires : tie.Need-wrapping_sub_u64-after-requires
+wrapping_sub_u64_requires c κs = search rules
 
-sub-if2 : tie.Need-overflow-sub-if2
-sub-if2 c = search rules
+sub_if2 : tie.Need-overflow_sub-size
+sub_if2 c = search rules
 
-returns : tie.Need-returns
-returns c = let s = c.before.before.before.before in let x = s.args in store_whole x.v x.a x.n (search rules) (search rules) s.requires.0 s.requires.1 _ (after c.before.before.before) c.before.before.if1.true c.if2.true
+returns : tie.Need-returns-then-v-size
+returns c = let s = c in let x = s.args in store_whole x.v x.a x.n (search rules) (search rules) s.requires.0 s.requires.1 _ (after c.before.before.before) c.if-after-size.true c.if-v-size.true
 
-returns-2 : tie.Need-returns-2
-returns-2 c = let s = c.before.before.before.before in let x = s.args in store_front x.v x.a x.n (search rules) (search rules) s.requires.0 s.requires.1 _ (after c.before.before.before) c.before.before.if1.true c.if2.false
+returns_2 : tie.Need-returns-then-after-size
+returns_2 c = let s = c in let x = s.args in store_front x.v x.a x.n (search rules) (search rules) s.requires.0 s.requires.1 _ (after c.before.before.before) c.if-after-size.true c.if-v-size.false
 
-wrapping-sub-u64-requires-2 : tie.Need-wrapping-sub-u64-requires-2
-wrapping-sub-u64-requires-2 c κs = search rules
+wrapping_sub_u64_requires_2 : tie.Need-wrapping_sub_u64-before-requires
+wrapping_sub_u64_requires_2 c κs = search rules
 
-returns-3 : tie.Need-returns-3
-returns-3 c = let s = c.before.before.before.before.before in let x = s.args in store_back x.v x.a x.n (search rules) (search rules) s.requires.0 s.requires.1 _ _ (after c.before.before.before.before) (before c.before.before) c.before.before.before.if1.false c.if3.true
+returns_3 : tie.Need-returns-then-before-v
+returns_3 c = let s = c in let x = s.args in store_back x.v x.a x.n (search rules) (search rules) s.requires.0 s.requires.1 _ _ (after c.before.before.before.before) (before c.before.before) c.if-after-size.false c.if-before-v.true
 
-returns-4 : tie.Need-returns-4
-returns-4 c = let s = c.before.before.before.before.before in let x = s.args in store_none x.v x.a x.n (search rules) (search rules) s.requires.0 s.requires.1 _ _ (after c.before.before.before.before) (before c.before.before) c.before.before.before.if1.false c.if3.false
+returns_4 : tie.Need-returns
+returns_4 c = let s = c in let x = s.args in store_none x.v x.a x.n (search rules) (search rules) s.requires.0 s.requires.1 _ _ (after c.before.before.before.before) (before c.before.before) c.if-after-size.false c.if-before-v.false
 
-pub store-verdict-spec : {M : Type 1} → statement M
-store-verdict-spec =
+pub store_verdict_spec : {M : Type 1} → statement M
+store_verdict_spec =
     tie.close
     (tie.spec
-    wrapping-sub-u64-requires
-    sub-if2
+    wrapping_sub_u64_requires
+    sub_if2
     returns
-    returns-2
-    wrapping-sub-u64-requires-2
-    returns-3
-    returns-4)
+    returns_2
+    wrapping_sub_u64_requires_2
+    returns_3
+    returns_4)

@@ -4,65 +4,65 @@ use Rattle.watching.specs.Verdicts as defined
 use Rattle.watching.proofs.verdicts.touched_by.Statement.{statement}
 use Rattle.watching.proofs.verdicts.touched_by.Tie as tie
 
-enum_told : tie.Need-enum-told
+enum_told : tie.Need-enum_told-1
 enum_told c = search rules
 
-enum-told-2 : tie.Need-enum-told-2
-enum-told-2 c = search rules
+enum_told_2 : tie.Need-enum_told-in-RegisterWrite
+enum_told_2 c = search rules
 
-enum-told-3 : tie.Need-enum-told-3
-enum-told-3 c = search rules
+enum_told_3 : tie.Need-enum_told-in-MemoryRead
+enum_told_3 c = search rules
 
-enum-known-e : tie.Need-enum-known-e
-enum-known-e c = search rules
+enum_known_e : tie.Need-enum_known-e
+enum_known_e c = search rules
 
-store-touched-requires : tie.Need-store-touched-requires
-store-touched-requires c κs = search rules
+store_touched_requires : tie.Need-store_touched-requires
+store_touched_requires c κs = search rules
 
-enum-told-4 : tie.Need-enum-told-4
-enum-told-4 c = search rules
+enum_told_4 : tie.Need-enum_told-in-UnknownRead
+enum_told_4 c = search rules
 
-enum-told-5 : tie.Need-enum-told-5
-enum-told-5 c = search rules
+enum_told_5 : tie.Need-enum_told-in-UnknownWrite
+enum_told_5 c = search rules
 
-returns : tie.Need-returns
+returns : tie.Need-returns-in-RegisterRead
 unfolding defined.touched_of
-returns c = rw c.enum_told.given.1
+returns c = rw c.in-RegisterRead.is
 
-returns-2 : tie.Need-returns-2
+returns_2 : tie.Need-returns-in-RegisterWrite
 unfolding defined.touched_of
-returns-2 c = rw c.enum-told2.given.1
+returns_2 c = rw c.in-RegisterWrite.is
 
-returns-3 : tie.Need-returns-3
+returns_3 : tie.Need-returns-in-MemoryRead
 unfolding defined.touched_of
-returns-3 c = rw c.enum-told3.given.1
+returns_3 c = rw c.in-MemoryRead.is
 
-returns-4 : tie.Need-returns-4
+returns_4 : tie.Need-returns-in-MemoryWrite
 unfolding defined.touched_of
-returns-4 c = rw c.before.before.e.given.1 c.store-touched.ensures
+returns_4 c = rw c.in-MemoryWrite.is c.store_touched.ensures
 
-returns-5 : tie.Need-returns-5
+returns_5 : tie.Need-returns-in-UnknownRead
 unfolding defined.touched_of
-returns-5 c = rw c.enum-told4.given.1
+returns_5 c = rw c.in-UnknownRead.is
 
-returns-6 : tie.Need-returns-6
+returns_6 : tie.Need-returns-in-UnknownWrite
 unfolding defined.touched_of
-returns-6 c = rw c.enum-told5.given.1
+returns_6 c = rw c.in-UnknownWrite.is
 
-pub touched-by-spec : {M : Type 1} → statement M
-touched-by-spec =
+pub touched_by_spec : {M : Type 1} → statement M
+touched_by_spec =
     tie.close
     (tie.spec
     enum_told
-    enum-told-2
-    enum-told-3
-    enum-known-e
-    store-touched-requires
-    enum-told-4
-    enum-told-5
+    enum_told_2
+    enum_told_3
+    enum_known_e
+    store_touched_requires
+    enum_told_4
+    enum_told_5
     returns
-    returns-2
-    returns-3
-    returns-4
-    returns-5
-    returns-6)
+    returns_2
+    returns_3
+    returns_4
+    returns_5
+    returns_6)

@@ -4,14 +4,14 @@ use Rattle.watching.proofs.Overlap.{touching}
 use Rattle.watching.proofs.verdicts.touches.Statement.{statement}
 use Rattle.watching.proofs.verdicts.touches.Tie as tie
 
-wrapping-add-u64-requires : tie.Need-wrapping-add-u64-requires
-wrapping-add-u64-requires c κs = search rules
+wrapping_add_u64_requires : tie.Need-wrapping_add_u64-byte-requires
+wrapping_add_u64_requires c κs = search rules
 
-wrapping-sub-u64-requires : tie.Need-wrapping-sub-u64-requires
-wrapping-sub-u64-requires c κs = search rules
+wrapping_sub_u64_requires : tie.Need-wrapping_sub_u64-requires
+wrapping_sub_u64_requires c κs = search rules
 
 returns : tie.Need-returns
-returns c = let x = c.before.before.args in touching x.v.address x.i x.a x.n c.before.wrapping-add-u64.result c.wrapping-sub-u64.result (search rules) (search rules) (search rules) c.before.wrapping-add-u64.ensures c.wrapping-sub-u64.ensures
+returns c = let x = c.args in touching x.v.address x.i x.a x.n c.wrapping_add_u64-byte.result c.wrapping_sub_u64.result (search rules) (search rules) (search rules) c.wrapping_add_u64-byte.ensures c.wrapping_sub_u64.ensures
 
-pub touches-spec : {M : Type 1} → statement M
-touches-spec = tie.close (tie.spec wrapping-add-u64-requires wrapping-sub-u64-requires returns)
+pub touches_spec : {M : Type 1} → statement M
+touches_spec = tie.close (tie.spec wrapping_add_u64_requires wrapping_sub_u64_requires returns)

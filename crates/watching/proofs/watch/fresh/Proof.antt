@@ -4,12 +4,12 @@ use Rattle.watching.specs.Traces as defined
 use Rattle.watching.proofs.watch.fresh.Statement.{statement}
 use Rattle.watching.proofs.watch.fresh.Tie as tie
 
-zero-requires : tie.Need-zero-requires
-zero-requires c κs = search rules
+zero_requires : tie.Need-zero-zero-requires
+zero_requires c κs = search rules
 
 returns : tie.Need-returns
 unfolding defined.fresh
-returns c = rw c.zero.ensures
+returns c = rw c.zero-zero.ensures
 
-pub fresh-spec : {M : Type 1} → statement M
-fresh-spec = tie.close (tie.spec zero-requires returns)
+pub fresh_spec : {M : Type 1} → statement M
+fresh_spec = tie.close (tie.spec zero_requires returns)

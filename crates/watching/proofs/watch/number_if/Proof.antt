@@ -3,11 +3,11 @@ use Rattle.std.proofs.Common.{le-ltb, lt-ltb}
 use Rattle.watching.proofs.watch.number_if.Statement.{statement}
 use Rattle.watching.proofs.watch.number_if.Tie as tie
 
-returns : tie.Need-returns
-returns c = rw (lt-ltb 0 c.before.args.some c.if1.true)
+returns : tie.Need-returns-then-some-gt0
+returns c = rw (lt-ltb 0 c.args.some c.if-some-gt0.true)
 
-returns-2 : tie.Need-returns-2
-returns-2 c = rw (le-ltb 0 c.before.args.some c.if1.false)
+returns_2 : tie.Need-returns
+returns_2 c = rw (le-ltb 0 c.args.some c.if-some-gt0.false)
 
-pub number-if-spec : {M : Type 1} → statement M
-number-if-spec = tie.close (tie.spec returns returns-2)
+pub number_if_spec : {M : Type 1} → statement M
+number_if_spec = tie.close (tie.spec returns returns_2)

@@ -4,68 +4,68 @@ use Rattle.watching.specs.Tallies as defined
 use Rattle.watching.proofs.tallies.Tally.counting.Statement.{statement}
 use Rattle.watching.proofs.tallies.Tally.counting.Tie as tie
 
-enum_told : tie.Need-enum-told
+enum_told : tie.Need-enum_told-1
 enum_told c = search rules
 
-enum-told-2 : tie.Need-enum-told-2
-enum-told-2 c = search rules
+enum_told_2 : tie.Need-enum_told-in-AddressUnknown
+enum_told_2 c = search rules
 
-add-self : tie.Need-overflow-add-self
-add-self c = search rules
+add_self : tie.Need-overflow_add-self
+add_self c = search rules
 
-enum-told-3 : tie.Need-enum-told-3
-enum-told-3 c = search rules
+enum_told_3 : tie.Need-enum_told-in-NoneTouched
+enum_told_3 c = search rules
 
-add-self-2 : tie.Need-overflow-add-self-2
-add-self-2 c = search rules
+add_self_2 : tie.Need-overflow_add-self-in-NoneTouched
+add_self_2 c = search rules
 
-enum-told-4 : tie.Need-enum-told-4
-enum-told-4 c = search rules
+enum_told_4 : tie.Need-enum_told-in-PartTouched
+enum_told_4 c = search rules
 
-add-self-3 : tie.Need-overflow-add-self-3
-add-self-3 c = search rules
+add_self_3 : tie.Need-overflow_add-self-in-PartTouched
+add_self_3 c = search rules
 
-enum-told-5 : tie.Need-enum-told-5
-enum-told-5 c = search rules
+enum_told_5 : tie.Need-enum_told-in-WholeTouched
+enum_told_5 c = search rules
 
-add-self-4 : tie.Need-overflow-add-self-4
-add-self-4 c = search rules
+add_self_4 : tie.Need-overflow_add-self-in-WholeTouched
+add_self_4 c = search rules
 
-returns : tie.Need-returns
+returns : tie.Need-returns-in-NoWrite
 unfolding defined.counting
-returns c = rw c.enum_told.given.1
+returns c = rw c.in-NoWrite.is
 
-returns-2 : tie.Need-returns-2
+returns_2 : tie.Need-returns-in-AddressUnknown
 unfolding defined.counting
-returns-2 c = rw c.before.enum-told2.given.1
+returns_2 c = rw c.in-AddressUnknown.is
 
-returns-3 : tie.Need-returns-3
+returns_3 : tie.Need-returns-in-NoneTouched
 unfolding defined.counting
-returns-3 c = rw c.before.enum-told3.given.1
+returns_3 c = rw c.in-NoneTouched.is
 
-returns-4 : tie.Need-returns-4
+returns_4 : tie.Need-returns-in-PartTouched
 unfolding defined.counting
-returns-4 c = rw c.before.enum-told4.given.1
+returns_4 c = rw c.in-PartTouched.is
 
-returns-5 : tie.Need-returns-5
+returns_5 : tie.Need-returns-in-WholeTouched
 unfolding defined.counting
-returns-5 c = rw c.before.enum-told5.given.1
+returns_5 c = rw c.in-WholeTouched.is
 
-pub counting-spec : {M : Type 1} → statement M
-counting-spec =
+pub counting_spec : {M : Type 1} → statement M
+counting_spec =
     tie.close
     (tie.spec
     enum_told
-    enum-told-2
-    add-self
-    enum-told-3
-    add-self-2
-    enum-told-4
-    add-self-3
-    enum-told-5
-    add-self-4
+    enum_told_2
+    add_self
+    enum_told_3
+    add_self_2
+    enum_told_4
+    add_self_3
+    enum_told_5
+    add_self_4
     returns
-    returns-2
-    returns-3
-    returns-4
-    returns-5)
+    returns_2
+    returns_3
+    returns_4
+    returns_5)

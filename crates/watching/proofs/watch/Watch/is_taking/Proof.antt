@@ -4,16 +4,16 @@ use Rattle.watching.specs.Traces as defined
 use Rattle.watching.proofs.watch.Watch.is_taking.Statement.{statement}
 use Rattle.watching.proofs.watch.Watch.is_taking.Tie as tie
 
-is-length-requires : tie.Need-is-length-requires
-is-length-requires c κs = search rules
+is_length_requires : tie.Need-is_length-requires
+is_length_requires c κs = search rules
 
-returns : tie.Need-returns
+returns : tie.Need-returns-then-is_length
 unfolding defined.is_taking
-returns c = rw (← c.before.before.is-length.ensures, c.before.if1.true)
+returns c = rw (← c.is_length.ensures, c.if-is_length.true)
 
-returns-2 : tie.Need-returns-2
+returns_2 : tie.Need-returns-else-is_length
 unfolding defined.is_taking
-returns-2 c = rw (← c.before.is-length.ensures, c.if1.false)
+returns_2 c = rw (← c.is_length.ensures, c.if-is_length.false)
 
-pub is-taking-spec : {M : Type 1} → statement M
-is-taking-spec = tie.close (tie.spec is-length-requires returns returns-2)
+pub is_taking_spec : {M : Type 1} → statement M
+is_taking_spec = tie.close (tie.spec is_length_requires returns returns_2)

@@ -4,19 +4,19 @@ use Rattle.watching.specs.Traces as defined
 use Rattle.watching.proofs.watch.Watch.new.Statement.{statement}
 use Rattle.watching.proofs.watch.Watch.new.Tie as tie
 
-is-length-requires : tie.Need-is-length-requires
-is-length-requires c κs = search rules
+is_length_requires : tie.Need-is_length-requires
+is_length_requires c κs = search rules
 
-fresh-requires : tie.Need-fresh-requires
-fresh-requires c κs = search rules
+fresh_requires : tie.Need-fresh-requires
+fresh_requires c κs = search rules
 
-returns : tie.Need-returns
+returns : tie.Need-returns-then-is_length
 unfolding defined.new_of
-returns c = rw (← c.before.before.is-length.ensures, c.before.if1.true, c.fresh.ensures)
+returns c = rw (← c.is_length.ensures, c.if-is_length.true, c.fresh.ensures)
 
-returns-2 : tie.Need-returns-2
+returns_2 : tie.Need-returns-else-is_length
 unfolding defined.new_of
-returns-2 c = rw (← c.before.is-length.ensures, c.if1.false)
+returns_2 c = rw (← c.is_length.ensures, c.if-is_length.false)
 
 pub new_spec : {M : Type 1} → statement M
-new_spec = tie.close (tie.spec is-length-requires fresh-requires returns returns-2)
+new_spec = tie.close (tie.spec is_length_requires fresh_requires returns returns_2)

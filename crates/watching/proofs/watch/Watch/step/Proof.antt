@@ -6,58 +6,58 @@ use Rattle.watching.proofs.watch.Watch.step.Statement.{statement}
 use Rattle.watching.proofs.watch.Watch.step.Tie as tie
 
 -- the watch takes the pair
-taking : (c : tie.Then1) → is_taking c.before.before.before.before.args.self ≡ true
-taking c = sym c.before.is-taking.ensures ∙ c.if1.true
+taking : (c : tie.Then-is_taking) → is_taking c.args.self ≡ true
+taking c = sym c.is_taking.ensures ∙ c.if-is_taking.true
 
-is-taking-requires : tie.Need-is-taking-requires
-is-taking-requires c κs = search rules
+is_taking_requires : tie.Need-is_taking-requires
+is_taking_requires c κs = search rules
 
-slice-aggregate-visit-accesses : tie.Need-slice-aggregate-visit-accesses
-slice-aggregate-visit-accesses c = search rules
+slice_aggregate_visit_accesses : tie.Need-slice_bounds-visit_accesses-end
+slice_aggregate_visit_accesses c = search rules
 
-visit-accesses-requires : tie.Need-visit-accesses-requires
-visit-accesses-requires c κs = search rules
+visit_accesses_requires : tie.Need-visit_accesses-visit-requires
+visit_accesses_requires c κs = search rules
 
-enum-known-visit : tie.Need-enum-known-visit
-enum-known-visit c = search rules
+enum_known_visit : tie.Need-enum_known-visit
+enum_known_visit c = search rules
 
-zero-requires : tie.Need-zero-requires
-zero-requires c κs = search rules
+zero_requires : tie.Need-zero-requires
+zero_requires c κs = search rules
 
-taken-requires : tie.Need-taken-requires
-taken-requires c κs = taking_pairs c.before.before.before.before.before.before.before.before.before.args.self (taking c.before.before.before.before.before)
+taken_requires : tie.Need-taken-requires
+taken_requires c κs = taking_pairs c.args.self (taking c.before.before.before.before.before)
 
-returns : tie.Need-returns
-returns c = let x = c.before.before.before.before.before.before.before.before.before.before.args in let v = c.before.before.before.before.visit-accesses in c.taken.ensures ∙ rw c.before.zero.ensures (step_refused x.bytes.now x.file.now v.result v.new.1.1.0 v.ensures x.self (taking c.before.before.before.before.before.before) c.before.before.match.keys2)
+returns : tie.Need-returns-in_default
+returns c = let x = c.args in let v = c.visit_accesses-visit in c.taken.ensures ∙ rw c.zero.ensures (step_refused x.bytes.now x.file.now v.result v.new.log v.ensures x.self (taking c.before.before.before.before.before.before) c.in_default.in_default-own.keys2)
 
-slice-aggregate-logged : tie.Need-slice-aggregate-logged
-slice-aggregate-logged c = search rules
+slice_aggregate_logged : tie.Need-slice_bounds-logged-end
+slice_aggregate_logged c = search rules
 
-logged-requires : tie.Need-logged-requires
-logged-requires c κs = let x = c.before.before.before.before.before.before.before.before.before.before.before.args in let v = c.before.before.before.before.before.visit-accesses in (taking c.before.before.before.before.before.before.before, fits x.bytes.now x.file.now v.result v.new.1.1.0 v.ensures c.before.before.visit.given.0.0 c.before.before.visit.given.1)
+logged_requires : tie.Need-logged-requires
+logged_requires c κs = let x = c.args in let v = c.visit_accesses-visit in (taking c.before.before.before.before.before, fits x.bytes.now x.file.now v.result v.new.log v.ensures c.in-Done.n c.in-Done.is)
 
-untaken-requires : tie.Need-untaken-requires
-untaken-requires c κs = search rules
+untaken_requires : tie.Need-untaken-requires
+untaken_requires c κs = search rules
 
-returns-2 : tie.Need-returns-2
-returns-2 c = let x = c.before.before.before.before.before.before.before.before.before.before.before.before.args in let v = c.before.before.before.before.before.before.visit-accesses in c.logged.ensures ∙ step_logged x.bytes.now x.file.now v.result v.new.1.1.0 v.ensures x.self (taking c.before.before.before.before.before.before.before.before) c.before.before.before.visit.given.0.0 c.before.before.before.visit.given.1
+returns_2 : tie.Need-returns-in-Done
+returns_2 c = let x = c.args in let v = c.visit_accesses-visit in c.logged.ensures ∙ step_logged x.bytes.now x.file.now v.result v.new.log v.ensures x.self (taking c.before.before.before.before.before.before) c.in-Done.n c.in-Done.is
 
-returns-3 : tie.Need-returns-3
-returns-3 c = let x = c.before.before.before.before.before.args in c.untaken.ensures ∙ step_untaken x.self x.bytes.now x.file.now (sym c.before.before.is-taking.ensures ∙ c.before.if1.false)
+returns_3 : tie.Need-returns-else-is_taking
+returns_3 c = let x = c.args in c.untaken.ensures ∙ step_untaken x.self x.bytes.now x.file.now (sym c.is_taking.ensures ∙ c.if-is_taking.false)
 
 pub step_spec : {M : Type 1} → statement M
 step_spec =
     tie.close
     (tie.spec
-    is-taking-requires
-    slice-aggregate-visit-accesses
-    visit-accesses-requires
-    enum-known-visit
-    zero-requires
-    taken-requires
+    is_taking_requires
+    slice_aggregate_visit_accesses
+    visit_accesses_requires
+    enum_known_visit
+    zero_requires
+    taken_requires
     returns
-    slice-aggregate-logged
-    logged-requires
-    untaken-requires
-    returns-2
-    returns-3)
+    slice_aggregate_logged
+    logged_requires
+    untaken_requires
+    returns_2
+    returns_3)

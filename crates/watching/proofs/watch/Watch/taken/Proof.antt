@@ -4,12 +4,12 @@ use Rattle.watching.specs.Traces as defined
 use Rattle.watching.proofs.watch.Watch.taken.Statement.{statement}
 use Rattle.watching.proofs.watch.Watch.taken.Tie as tie
 
-further-requires : tie.Need-further-requires
-further-requires c κs = search rules
+further_requires : tie.Need-further-after-requires
+further_requires c κs = search rules
 
 returns : tie.Need-returns
 unfolding defined.taken
-returns c = rw c.further.ensures
+returns c = rw c.further-after.ensures
 
-pub taken-spec : {M : Type 1} → statement M
-taken-spec = tie.close (tie.spec further-requires returns)
+pub taken_spec : {M : Type 1} → statement M
+taken_spec = tie.close (tie.spec further_requires returns)

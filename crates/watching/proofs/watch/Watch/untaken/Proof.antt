@@ -4,12 +4,12 @@ use Rattle.watching.specs.Traces as defined
 use Rattle.watching.proofs.watch.Watch.untaken.Statement.{statement}
 use Rattle.watching.proofs.watch.Watch.untaken.Tie as tie
 
-zero-requires : tie.Need-zero-requires
-zero-requires c κs = search rules
+zero_requires : tie.Need-zero-zero-requires
+zero_requires c κs = search rules
 
 returns : tie.Need-returns
 unfolding defined.untaken
-returns c = rw c.zero.ensures
+returns c = rw c.zero-zero.ensures
 
-pub untaken-spec : {M : Type 1} → statement M
-untaken-spec = tie.close (tie.spec zero-requires returns)
+pub untaken_spec : {M : Type 1} → statement M
+untaken_spec = tie.close (tie.spec zero_requires returns)
