@@ -9,95 +9,95 @@ use borrow.Author.Rules.{rules}
 use Rattle.block.proofs.blocks.visit_block.Statement.{statement}
 use Rattle.block.proofs.blocks.visit_block.Tie as tie
 
-list-refusal-requires : tie.Need-list-refusal-requires
-list-refusal-requires c κs = search rules
+list_refusal_requires : tie.Need-list_refusal-listed-requires
+list_refusal_requires c κs = search rules
 
-refused-requires : tie.Need-refused-requires
-refused-requires c κs = search rules
+refused_requires : tie.Need-refused-requires
+refused_requires c κs = search rules
 
-returns : tie.Need-returns
+returns : tie.Need-returns-then-listed-ne0
 returns c =
-    let x = c.before.before.before.before.before.before.before.args in
-    let l = c.before.before.list-refusal in
-    let ne = c.before.if1.true in
+    let x = c.args in
+    let l = c.list_refusal-listed in
+    let ne = c.if-listed-ne0.true in
     rw c.refused.ensures
     (refused_call x.each x.records.now x.file.now x.log.now x.start x.answers.now
     (by_list x.each x.records.now x.file.now x.answers.now l.ensures ne) ne)
 
-refusal-of-requires : tie.Need-refusal-of-requires
-refusal-of-requires c κs = search rules
+refusal_of_requires : tie.Need-refusal_of-unfiled-requires
+refusal_of_requires c κs = search rules
 
-refused-requires-2 : tie.Need-refused-requires-2
-refused-requires-2 c κs = search rules
+refused_requires_2 : tie.Need-refused-requires-then-unfiled-ne0
+refused_requires_2 c κs = search rules
 
-returns-2 : tie.Need-returns-2
-returns-2 c =
-    let x = c.before.before.before.before.before.before.before.before.before.args in
-    let l = c.before.before.before.before.list-refusal in
-    let g = c.before.before.refusal-of in
-    let ne = c.before.if2.true in
-    rw c.refused2.ensures
+returns_2 : tie.Need-returns-then-unfiled-ne0
+returns_2 c =
+    let x = c.args in
+    let l = c.list_refusal-listed in
+    let g = c.refusal_of-unfiled in
+    let ne = c.if-unfiled-ne0.true in
+    rw c.refused-then-unfiled-ne0.ensures
     (refused_call x.each x.records.now x.file.now x.log.now x.start x.answers.now
-    (by_file x.each x.records.now x.file.now x.answers.now l.ensures c.before.before.before.if1.false g.ensures ne) ne)
+    (by_file x.each x.records.now x.file.now x.answers.now l.ensures c.if-listed-ne0.false g.ensures ne) ne)
 
-div-if3 : tie.Need-nonzero-div-if3
-div-if3 c =
-    let x = c.before.before.before.before.before.before.before.before.args in
-    (listed (length x.records.now) x.each (sym c.before.before.before.list-refusal.ensures ∙ c.before.before.if1.false)).some
+div_if3 : tie.Need-nonzero_div-records
+div_if3 c =
+    let x = c.args in
+    (listed (length x.records.now) x.each (sym c.list_refusal-listed.ensures ∙ c.if-listed-ne0.false)).some
 
-mul-if3 : tie.Need-overflow-mul-if3
-mul-if3 c =
-    let x = c.before.before.before.before.before.before.before.before.args in
-    record { fits = omega (arith, (listed (length x.records.now) x.each (sym c.before.before.before.list-refusal.ensures ∙ c.before.before.if1.false)).few) }
+mul_if3 : tie.Need-overflow_mul-records
+mul_if3 c =
+    let x = c.args in
+    record { fits = omega (arith, (listed (length x.records.now) x.each (sym c.list_refusal-listed.ensures ∙ c.if-listed-ne0.false)).few) }
 
-refused-requires-3 : tie.Need-refused-requires-3
-refused-requires-3 c κs = search rules
+refused_requires_3 : tie.Need-refused-requires-then-answers-records
+refused_requires_3 c κs = search rules
 
-returns-3 : tie.Need-returns-3
-returns-3 c =
-    let x = c.before.before.before.before.before.before.before.before.before.before.args in
-    let l = c.before.before.before.before.before.list-refusal in
-    let g = c.before.before.before.refusal-of in
-    rw c.refused3.ensures
+returns_3 : tie.Need-returns-then-answers-records
+returns_3 c =
+    let x = c.args in
+    let l = c.list_refusal-listed in
+    let g = c.refusal_of-unfiled in
+    rw c.refused-then-answers-records.ensures
     (refused_call x.each x.records.now x.file.now x.log.now x.start x.answers.now
-    (by_room_lem x.each x.records.now x.file.now x.answers.now l.ensures c.before.before.before.before.if1.false g.ensures c.before.before.if2.false c.before.if3.true)
+    (by_room_lem x.each x.records.now x.file.now x.answers.now l.ensures c.if-listed-ne0.false g.ensures c.if-unfiled-ne0.false c.if-answers-records.true)
     (λ e. omega arith))
 
-visit-each-requires : tie.Need-visit-each-requires
-visit-each-requires c κs = search rules
+visit_each_requires : tie.Need-visit_each-requires
+visit_each_requires c κs = search rules
 
-same_length : tie.Need-same-length
+same_length : tie.Need-shape_of-log
 same_length c = search rules
 
-same-length-2 : tie.Need-same-length-2
-same-length-2 c = search rules
+same_length_2 : tie.Need-shape_of-answers
+same_length_2 c = search rules
 
-returns-4 : tie.Need-returns-4
-returns-4 c =
-    let x = c.before.before.before.before.before.before.before.before.before.before.before.before.before.before.before.before.args in
-    let l = c.before.before.before.before.before.before.before.before.before.before.before.list-refusal in
-    let z = c.before.before.before.before.before.before.before.before.before.before.if1.false in
-    let g = c.before.before.before.before.before.before.before.before.before.refusal-of in
-    let n = c.before.before.before.before.before.before.before.before.if2.false in
-    c.before.before.before.before.visit-each.ensures
+returns_4 : tie.Need-returns
+returns_4 c =
+    let x = c.args in
+    let l = c.list_refusal-listed in
+    let z = c.if-listed-ne0.false in
+    let g = c.refusal_of-unfiled in
+    let n = c.if-unfiled-ne0.false in
+    c.visit_each.ensures
     ∙ sym (called x.each x.records.now x.file.now x.log.now x.start x.answers.now
-    (passed x.each x.records.now x.file.now x.answers.now l.ensures z g.ensures n c.before.before.before.before.before.before.before.if3.false))
+    (passed x.each x.records.now x.file.now x.answers.now l.ensures z g.ensures n c.if-answers-records.false))
 
-pub visit-block-spec : {M : Type 1} → statement M
-visit-block-spec =
+pub visit_block_spec : {M : Type 1} → statement M
+visit_block_spec =
     tie.close
     (tie.spec
-    list-refusal-requires
-    refused-requires
+    list_refusal_requires
+    refused_requires
     returns
-    refusal-of-requires
-    refused-requires-2
-    returns-2
-    div-if3
-    mul-if3
-    refused-requires-3
-    returns-3
-    visit-each-requires
+    refusal_of_requires
+    refused_requires_2
+    returns_2
+    div_if3
+    mul_if3
+    refused_requires_3
+    returns_3
+    visit_each_requires
     same_length
-    same-length-2
-    returns-4)
+    same_length_2
+    returns_4)

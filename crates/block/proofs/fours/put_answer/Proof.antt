@@ -10,79 +10,79 @@ use Rattle.block.proofs.fours.put_answer.Tie as tie
 byte : {n : ℕ} → n < 256 → Fits w8 n
 byte h = record { fits = omega arith }
 
-enum-known-a : tie.Need-enum-known-a
-enum-known-a c = search rules
+enum_known_a : tie.Need-enum_known-a
+enum_known_a c = search rules
 
-cast-put-four : tie.Need-overflow-cast-put-four
-cast-put-four c = byte (rw c.before.before.a.given.1 at c.before.before.before.before.before.requires.1)
+cast_put_four : tie.Need-overflow_cast-n
+cast_put_four c = byte (rw c.in-Done.is at c.requires.1)
 
-put-four-requires : tie.Need-put-four-requires
-put-four-requires c κs = search rules
+put_four_requires : tie.Need-put_four-requires
+put_four_requires c κs = search rules
 
-enum-known-a-2 : tie.Need-enum-known-a-2
-enum-known-a-2 c = search rules
+enum_known_a_2 : tie.Need-enum_known-a-in-Refused-1
+enum_known_a_2 c = search rules
 
-put-four-requires-2 : tie.Need-put-four-requires-2
-put-four-requires-2 c κs = search rules
+put_four_requires_2 : tie.Need-put_four-requires-in-Refused
+put_four_requires_2 c κs = search rules
 
-enum-known-a-3 : tie.Need-enum-known-a-3
-enum-known-a-3 c = search rules
+enum_known_a_3 : tie.Need-enum_known-a-in-Complex-1
+enum_known_a_3 c = search rules
 
-put-four-requires-3 : tie.Need-put-four-requires-3
-put-four-requires-3 c κs = search rules
+put_four_requires_3 : tie.Need-put_four-requires-in-Complex
+put_four_requires_3 c κs = search rules
 
-enum-known-a-4 : tie.Need-enum-known-a-4
-enum-known-a-4 c = search rules
+enum_known_a_4 : tie.Need-enum_known-a-in-Short-1
+enum_known_a_4 c = search rules
 
-cast-put-four-2 : tie.Need-overflow-cast-put-four-2
-cast-put-four-2 c = byte (rw c.before.before.a4.given.1 at c.before.before.before.before.before.requires.1)
+cast_put_four_2 : tie.Need-overflow_cast-n-in-Short
+cast_put_four_2 c = byte (rw c.in-Short.is at c.requires.1)
 
-put-four-requires-4 : tie.Need-put-four-requires-4
-put-four-requires-4 c κs = search rules
+put_four_requires_4 : tie.Need-put_four-requires-in-Short
+put_four_requires_4 c κs = search rules
 
-same_length : tie.Need-same-length
+same_length : tie.Need-shape_of-out-in-Done
 same_length c = search rules
 
-returns : tie.Need-returns
-returns c = rw c.before.before.before.before.before.a.given.1 c.before.before.put_four.ensures
+returns : tie.Need-returns-in-Done
+returns c = rw c.in-Done.is c.put_four.ensures
 
-same-length-2 : tie.Need-same-length-2
-same-length-2 c = search rules
+same_length_2 : tie.Need-shape_of-out-in-Refused
+same_length_2 c = search rules
 
-returns-2 : tie.Need-returns-2
-returns-2 c = rw c.before.before.before.before.before.a2.given.1 c.before.before.put-four2.ensures
+returns_2 : tie.Need-returns-in-Refused
+returns_2 c = rw c.in-Refused.is c.put_four-in-Refused.ensures
 
-same-length-3 : tie.Need-same-length-3
-same-length-3 c = search rules
+same_length_3 : tie.Need-shape_of-out-in-Complex
+same_length_3 c = search rules
 
-returns-3 : tie.Need-returns-3
-returns-3 c = rw c.before.before.before.before.before.a3.given.1 c.before.before.put-four3.ensures
+returns_3 : tie.Need-returns-in-Complex
+returns_3 c = rw c.in-Complex.is c.put_four-in-Complex.ensures
 
-same-length-4 : tie.Need-same-length-4
-same-length-4 c = search rules
+same_length_4 : tie.Need-shape_of-out-in-Short
+same_length_4 c = search rules
 
-returns-4 : tie.Need-returns-4
-returns-4 c = rw c.before.before.before.before.before.a4.given.1 c.before.before.put-four4.ensures
+returns_4 : tie.Need-returns-in-Short
+returns_4 c = rw c.in-Short.is c.put_four-in-Short.ensures
 
-pub put-answer-spec : {M : Type 1} → statement M
-put-answer-spec =
+pub put_answer_spec : {M : Type 1} → statement M
+put_answer_spec =
     tie.close
     (tie.spec
-    enum-known-a
-    cast-put-four
-    put-four-requires
-    enum-known-a-2
-    put-four-requires-2
-    enum-known-a-3
-    put-four-requires-3
-    enum-known-a-4
-    cast-put-four-2
-    put-four-requires-4
+    enum_known_a
+    cast_put_four
+    put_four_requires
+    enum_known_a_2
+    put_four_requires_2
+    enum_known_a_3
+    put_four_requires_3
+    enum_known_a_4
+    cast_put_four_2
+    put_four_requires_4
     same_length
     returns
-    same-length-2
-    returns-2
-    same-length-3
-    returns-3
-    same-length-4
-    returns-4)
+    same_length_2
+    returns_2
+    same_length_3
+    returns_3
+    same_length_4
+    returns_4)

@@ -9,25 +9,25 @@ use borrow.Author.Rules.{rules}
 use Rattle.block.proofs.fours.put_four.Statement.{statement}
 use Rattle.block.proofs.fours.put_four.Tie as tie
 
-slice-write-out : tie.Need-slice-write-out
-slice-write-out c = search rules
+slice_write_out : tie.Need-bounds-out-0
+slice_write_out c = search rules
 
-slice-write-out-2 : tie.Need-slice-write-out-2
-slice-write-out-2 c = simp length-set (omega arith)
+slice_write_out_2 : tie.Need-bounds-out-1
+slice_write_out_2 c = simp length-set (omega arith)
 
-cast-out : tie.Need-overflow-cast-out
-cast-out c = search rules
+cast_out : tie.Need-overflow_cast-out
+cast_out c = search rules
 
-slice-write-out-3 : tie.Need-slice-write-out-3
-slice-write-out-3 c = simp length-set (omega arith)
+slice_write_out_3 : tie.Need-bounds-out-2
+slice_write_out_3 c = simp length-set (omega arith)
 
-cast-out-2 : tie.Need-overflow-cast-out-2
-cast-out-2 c = search rules
+cast_out_2 : tie.Need-overflow_cast-out-2
+cast_out_2 c = search rules
 
-slice-write-out-4 : tie.Need-slice-write-out-4
-slice-write-out-4 c = search rules
+slice_write_out_4 : tie.Need-bounds-out-3
+slice_write_out_4 c = search rules
 
-same_length : tie.Need-same-length
+same_length : tie.Need-shape_of-out
 same_length c = search rules
 
 returns : tie.Need-returns
@@ -36,15 +36,15 @@ returns c =
     let x = c.args in
     sets-eq (x.number ∷ x.count ∷ x.opcode % 256 ∷ x.opcode / 256 % 256 ∷ []) x.out.now 0 c.requires
 
-pub put-four-spec : {M : Type 1} → statement M
-put-four-spec =
+pub put_four_spec : {M : Type 1} → statement M
+put_four_spec =
     tie.close
     (tie.spec
-    slice-write-out
-    slice-write-out-2
-    cast-out
-    slice-write-out-3
-    cast-out-2
-    slice-write-out-4
+    slice_write_out
+    slice_write_out_2
+    cast_out
+    slice_write_out_3
+    cast_out_2
+    slice_write_out_4
     same_length
     returns)

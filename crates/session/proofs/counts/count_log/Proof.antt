@@ -11,76 +11,76 @@ use Rattle.session.proofs.Walks.{rest, begun, goes, ends}
 use Rattle.session.proofs.counts.count_log.Statement.{statement}
 use Rattle.session.proofs.counts.count_log.Tie as tie
 
-abbrev invariant-loop : tie.invariant-loop
+abbrev invariant-loop : tie.invariant-loop-e
 invariant-loop log at₀ counts₀ at counts =
     (at ≤ length log) × (counts.events ≤ at) × (counts.unknown ≤ at)
     × (counts_of (events_in (whole_of log)) ≡ summed counts (rest log at))
 
-abbrev decreases-loop : tie.decreases-loop
+abbrev decreases-loop : tie.decreases-loop-e
 decreases-loop log at₀ counts₀ at counts = length log - at
 
-loop-holds : tie.Need-loop-init invariant-loop decreases-loop
-loop-holds c = (zero-le, zero-le, zero-le, begun c.before.args.log.now)
+loop_holds : tie.Need-loop-e-init invariant-loop decreases-loop
+loop_holds c = (zero-le, zero-le, zero-le, begun c.args.log.now)
 
-read-event-requires : tie.Need-read-event-requires invariant-loop decreases-loop
-read-event-requires c κs = tt
+read_event_requires : tie.Need-read_event-r-requires invariant-loop decreases-loop
+read_event_requires c κs = tt
 
-enum-known-r : tie.Need-enum-known-r invariant-loop decreases-loop
-enum-known-r c = search rules
+enum_known_r : tie.Need-enum_known-r invariant-loop decreases-loop
+enum_known_r c = search rules
 
-returns : tie.Need-returns invariant-loop decreases-loop
+returns : tie.Need-returns-in_default invariant-loop decreases-loop
 returns c =
-    let l = c.before.before.loop in
-    let x = c.before.before.before.before.args in
-    ends x.log.now l.at c.before.read-event.result l.counts c.before.read-event.ensures c.match.keys2 ∙ sym l.invariant.3
+    let l = c.loop-e in
+    let x = c.args in
+    ends x.log.now l.at c.read_event-r.result l.counts c.read_event-r.ensures c.in_default.in_default-own.keys2 ∙ sym l.invariant.3
 
 -- what was read: an event that ends further on, within the log
 read :
-    (c : tie.After-known-told invariant-loop decreases-loop)
-    → read_at c.before.before.before.before.before.before.args.log.now c.before.before.before.before.loop.at ≡ Found c.before.r.given.0.0 c.before.r.given.0.1.0
-read c = sym c.before.before.before.read-event.ensures ∙ c.before.r.given.1
+    (c : tie.In-Found invariant-loop decreases-loop)
+    → read_at c.args.log.now c.loop-e.at ≡ Found c.in-Found.e c.in-Found.next
+read c = sym c.read_event-r.ensures ∙ c.in-Found.is
 
 further :
-    (c : tie.After-known-told invariant-loop decreases-loop)
-    → (c.before.before.before.before.loop.at < c.before.r.given.0.1.0) × (c.before.r.given.0.1.0 ≤ length c.before.before.before.before.before.before.args.log.now)
+    (c : tie.In-Found invariant-loop decreases-loop)
+    → (c.loop-e.at < c.in-Found.next) × (c.in-Found.next ≤ length c.args.log.now)
 further c =
-    let log = c.before.before.before.before.before.before.args.log.now in
-    let at = c.before.before.before.before.loop.at in
+    let log = c.args.log.now in
+    let at = c.loop-e.at in
     subst (Moves log at) (read c) (goes_on_lem log at)
 
-counting-requires : tie.Need-counting-requires invariant-loop decreases-loop
-counting-requires c κs =
-    let l = c.before.before.before.before.loop in
+counting_requires : tie.Need-counting-counts-requires invariant-loop decreases-loop
+counting_requires c κs =
+    let l = c.loop-e in
     let m = further c in
-    let k : c.before.r.given.0.1.0 < 2 ^ 64 = search rules in
+    let k : c.in-Found.next < 2 ^ 64 = search rules in
     (omega (arith, l.invariant.1, m.0, k), omega (arith, l.invariant.2, m.0, k))
 
-loop-less : tie.Need-loop-smaller invariant-loop decreases-loop
-loop-less c = let m = further c.before in omega (arith, m)
+loop_less : tie.Need-loop-e-smaller invariant-loop decreases-loop
+loop_less c = let m = further c.before in omega (arith, m)
 
-loop-again : tie.Need-loop-preserved invariant-loop decreases-loop
-loop-again c =
+loop_again : tie.Need-loop-e-preserved invariant-loop decreases-loop
+loop_again c =
     let d = c.before in
-    let l = d.before.before.before.before.loop in
-    let x = d.before.before.before.before.before.before.args in
-    let e = d.before.r.given.0.0 in
+    let l = d.loop-e in
+    let x = d.args in
+    let e = d.in-Found.e in
     let m = further d in (
       m.1,
-      rw c.counting.ensures (omega (arith, l.invariant.1, m.0)),
-      rw c.counting.ensures (omega (arith, l.invariant.2, unknown_one e, m.0)),
-      l.invariant.3 ∙ goes x.log.now l.at d.before.r.given.0.1.0 e l.counts c.counting.result (read d) c.counting.ensures,
+      rw c.counting-counts.ensures (omega (arith, l.invariant.1, m.0)),
+      rw c.counting-counts.ensures (omega (arith, l.invariant.2, unknown_one e, m.0)),
+      l.invariant.3 ∙ goes x.log.now l.at d.in-Found.next e l.counts c.counting-counts.result (read d) c.counting-counts.ensures,
     )
 
-pub count-log-spec : {M : Type 1} → statement M
-count-log-spec =
+pub count_log_spec : {M : Type 1} → statement M
+count_log_spec =
     tie.close
     (tie.spec
     invariant-loop
     decreases-loop
-    loop-holds
-    read-event-requires
-    enum-known-r
+    loop_holds
+    read_event_requires
+    enum_known_r
     returns
-    counting-requires
-    loop-less
-    loop-again)
+    counting_requires
+    loop_less
+    loop_again)

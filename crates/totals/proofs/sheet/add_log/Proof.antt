@@ -6,39 +6,39 @@ use Rattle.std.proofs.Common.{ℕ, List, sym, ap, ◌∙◌, rules}
 use Rattle.totals.proofs.sheet.add_log.Statement.{statement}
 use Rattle.totals.proofs.sheet.add_log.Tie as tie
 
-refusal-requires : tie.Need-refusal-requires
-refusal-requires c κs = search rules
+refusal_requires : tie.Need-refusal-number-requires
+refusal_requires c κs = search rules
 
-cast-result : tie.Need-overflow-cast-result
-cast-result c = search rules
+cast_result : tie.Need-overflow_cast-result
+cast_result c = search rules
 
-returns : tie.Need-returns
-returns c = refused c.before.before.before.before.args.sheet.now c.before.before.before.before.args.log.now c.before.refusal.result c.before.refusal.ensures c.if1.true
+returns : tie.Need-returns-then-number-ne0
+returns c = refused c.args.sheet.now c.args.log.now c.refusal-number.result c.refusal-number.ensures c.if-number-ne0.true
 
-element-copy-out-t9 : tie.Need-element-copy-out-t9
-element-copy-out-t9 c = search rules
+element_copy_out_t9 : tie.Need-bounds-sheet-0
+element_copy_out_t9 c = search rules
 
-element-copy-out-t12 : tie.Need-element-copy-out-t12
-element-copy-out-t12 c = search rules
+element_copy_out_t12 : tie.Need-bounds-sheet-1
+element_copy_out_t12 c = search rules
 
-raise-requires : tie.Need-raise-requires
-raise-requires c κs = search rules
+raise_requires : tie.Need-raise-requires
+raise_requires c κs = search rules
 
-add-events-requires : tie.Need-add-events-requires
-add-events-requires c κs = (taken_when c.before.before.before.before.before.before.before.before.before.args.sheet.now c.before.before.before.before.before.before.before.before.before.args.log.now (sym c.before.before.before.before.before.before.refusal.ensures ∙ c.before.before.before.before.before.if1.false)).1
+add_events_requires : tie.Need-add_events-requires
+add_events_requires c κs = (taken_when c.args.sheet.now c.args.log.now (sym c.refusal-number.ensures ∙ c.if-number-ne0.false)).1
 
-returns-2 : tie.Need-returns-2
-returns-2 c = let w = c.before.before.before.before.before.before.before.before.before.before.args.sheet.now in let l = c.before.before.before.before.before.before.before.before.before.before.args.log.now in took w l _ c.before.before.before.before.before.before.before.refusal.result c.before.before.before.before.before.before.before.refusal.ensures c.before.before.before.before.before.before.if1.false (c.add-events.ensures ∙ ap (λ (u : List ℕ). raised_by u (each (additions (variable_in w)) (events_in (whole_of l)))) c.before.before.raise.ensures ∙ taken_steps w l)
+returns_2 : tie.Need-returns
+returns_2 c = let w = c.args.sheet.now in let l = c.args.log.now in took w l _ c.refusal-number.result c.refusal-number.ensures c.if-number-ne0.false (c.add_events.ensures ∙ ap (λ (u : List ℕ). raised_by u (each (additions (variable_in w)) (events_in (whole_of l)))) c.raise.ensures ∙ taken_steps w l)
 
-pub add-log-spec : {M : Type 1} → statement M
-add-log-spec =
+pub add_log_spec : {M : Type 1} → statement M
+add_log_spec =
     tie.close
     (tie.spec
-    refusal-requires
-    cast-result
+    refusal_requires
+    cast_result
     returns
-    element-copy-out-t9
-    element-copy-out-t12
-    raise-requires
-    add-events-requires
-    returns-2)
+    element_copy_out_t9
+    element_copy_out_t12
+    raise_requires
+    add_events_requires
+    returns_2)

@@ -3,23 +3,23 @@ use Rattle.totals.specs.Sheets.{new_of, fresh}
 use Rattle.totals.proofs.sheet.new_sheet.Statement.{statement}
 use Rattle.totals.proofs.sheet.new_sheet.Tie as tie
 
-is-length-requires : tie.Need-is-length-requires
-is-length-requires c κs = search rules
+is_length_requires : tie.Need-is_length-requires
+is_length_requires c κs = search rules
 
-array-write-words : tie.Need-array-write-words
-array-write-words c = search rules
+array_write_words : tie.Need-bounds-words-0
+array_write_words c = search rules
 
-array-write-words-2 : tie.Need-array-write-words-2
-array-write-words-2 c = search rules
+array_write_words_2 : tie.Need-bounds-words-1
+array_write_words_2 c = search rules
 
-returns : tie.Need-returns
+returns : tie.Need-returns-then-is_length
 unfolding new_of fresh
-returns c = rw (sym c.before.is-length.ensures ∙ c.if1.true)
+returns c = rw (sym c.is_length.ensures ∙ c.if-is_length.true)
 
-returns-2 : tie.Need-returns-2
+returns_2 : tie.Need-returns-else-is_length
 unfolding new_of
-returns-2 c = rw (sym c.before.is-length.ensures ∙ c.if1.false)
+returns_2 c = rw (sym c.is_length.ensures ∙ c.if-is_length.false)
 
-pub new-sheet-spec : {M : Type 1} → statement M
-new-sheet-spec =
-    tie.close (tie.spec is-length-requires array-write-words array-write-words-2 returns returns-2)
+pub new_sheet_spec : {M : Type 1} → statement M
+new_sheet_spec =
+    tie.close (tie.spec is_length_requires array_write_words array_write_words_2 returns returns_2)

@@ -4,47 +4,47 @@ use Rattle.totals.specs.Sheets.{refusal_of}
 use Rattle.totals.proofs.sheet.refusal.Statement.{statement}
 use Rattle.totals.proofs.sheet.refusal.Tie as tie
 
-element-copy-out-if1 : tie.Need-element-copy-out-if1
-element-copy-out-if1 c = search rules
+element_copy_out_if1 : tie.Need-bounds-words-2
+element_copy_out_if1 c = search rules
 
-returns : tie.Need-returns
+returns : tie.Need-returns-then-words-ge-MOST_LOGS
 unfolding refusal_of
-returns c = rw (le-leb _ _ c.if1.true)
+returns c = rw (le-leb _ _ c.if-words-ge-MOST_LOGS.true)
 
-element-copy-out-is-length : tie.Need-element-copy-out-is-length
-element-copy-out-is-length c = search rules
+element_copy_out_is_length : tie.Need-bounds-words-1
+element_copy_out_is_length c = search rules
 
-is-length-requires : tie.Need-is-length-requires
-is-length-requires c κs = search rules
+is_length_requires : tie.Need-is_length-requires
+is_length_requires c κs = search rules
 
-returns-2 : tie.Need-returns-2
+returns_2 : tie.Need-returns-then-not-is_length
 unfolding refusal_of
-returns-2 c = rw (lt-leb _ _ c.before.before.before.if1.false, sym c.before.is-length.ensures ∙ not-true _ c.if2.true)
+returns_2 c = rw (lt-leb _ _ c.if-words-ge-MOST_LOGS.false, sym c.is_length.ensures ∙ c.if-not-is_length.true)
 
-returns-3 : tie.Need-returns-3
+returns_3 : tie.Need-returns-then-log-gt-MOST_LOG_BYTES
 unfolding refusal_of
-returns-3 c = rw (lt-leb _ _ c.before.before.before.before.if1.false, sym c.before.before.is-length.ensures ∙ not-false _ c.before.if2.false, lt-ltb _ _ c.if3.true)
+returns_3 c = rw (lt-leb _ _ c.if-words-ge-MOST_LOGS.false, sym c.is_length.ensures ∙ c.if-not-is_length.false, lt-ltb _ _ c.if-log-gt-MOST_LOG_BYTES.true)
 
-count-events-requires : tie.Need-count-events-requires
-count-events-requires c κs = search rules
+count_events_requires : tie.Need-count_events-requires
+count_events_requires c κs = search rules
 
-number-requires : tie.Need-number-requires
-number-requires c κs = search rules
+number_requires : tie.Need-number-requires
+number_requires c κs = search rules
 
-returns-4 : tie.Need-returns-4
+returns_4 : tie.Need-returns
 unfolding refusal_of
-returns-4 c = rw (lt-leb _ _ c.before.before.before.before.before.before.if1.false, sym c.before.before.before.before.is-length.ensures ∙ not-false _ c.before.before.before.if2.false, le-ltb _ _ c.before.before.if3.false, c.number.ensures, c.before.count-events.ensures)
+returns_4 c = rw (lt-leb _ _ c.if-words-ge-MOST_LOGS.false, sym c.is_length.ensures ∙ c.if-not-is_length.false, le-ltb _ _ c.if-log-gt-MOST_LOG_BYTES.false, c.number.ensures, c.count_events.ensures)
 
-pub refusal-spec : {M : Type 1} → statement M
-refusal-spec =
+pub refusal_spec : {M : Type 1} → statement M
+refusal_spec =
     tie.close
     (tie.spec
-    element-copy-out-if1
+    element_copy_out_if1
     returns
-    element-copy-out-is-length
-    is-length-requires
-    returns-2
-    returns-3
-    count-events-requires
-    number-requires
-    returns-4)
+    element_copy_out_is_length
+    is_length_requires
+    returns_2
+    returns_3
+    count_events_requires
+    number_requires
+    returns_4)

@@ -4,117 +4,117 @@ use Rattle.totals.specs.Sheets.{known_word, part_word, parts, additions, raised,
 use Rattle.totals.proofs.words.add_event.Statement.{statement}
 use Rattle.totals.proofs.words.add_event.Tie as tie
 
-enum-known-e : tie.Need-enum-known-e
-enum-known-e c = search rules
+enum_known_e : tie.Need-enum_known-e
+enum_known_e c = search rules
 
-cast-raise : tie.Need-overflow-cast-raise
-cast-raise c = search rules
+cast_raise : tie.Need-overflow_cast-y
+cast_raise c = search rules
 
-add-raise : tie.Need-overflow-add-raise
-add-raise c = search rules
+add_raise : tie.Need-overflow_add-y
+add_raise c = search rules
 
-raise-requires : tie.Need-raise-requires
-raise-requires c κs = search rules
+raise_requires : tie.Need-raise-requires
+raise_requires c κs = search rules
 
-enum-known-e-2 : tie.Need-enum-known-e-2
-enum-known-e-2 c = search rules
+enum_known_e_2 : tie.Need-enum_known-e-in-RegisterWrite-1
+enum_known_e_2 c = search rules
 
-cast-raise-2 : tie.Need-overflow-cast-raise-2
-cast-raise-2 c = search rules
+cast_raise_2 : tie.Need-overflow_cast-y-in-RegisterWrite
+cast_raise_2 c = search rules
 
-add-raise-2 : tie.Need-overflow-add-raise-2
-add-raise-2 c = search rules
+add_raise_2 : tie.Need-overflow_add-y-in-RegisterWrite
+add_raise_2 c = search rules
 
-raise-requires-2 : tie.Need-raise-requires-2
-raise-requires-2 c κs = search rules
+raise_requires_2 : tie.Need-raise-requires-in-RegisterWrite
+raise_requires_2 c κs = search rules
 
-enum-known-e-3 : tie.Need-enum-known-e-3
-enum-known-e-3 c = search rules
+enum_known_e_3 : tie.Need-enum_known-e-in-MemoryRead-1
+enum_known_e_3 c = search rules
 
-add-memory-requires : tie.Need-add-memory-requires
-add-memory-requires c κs = search rules
+add_memory_requires : tie.Need-add_memory-requires
+add_memory_requires c κs = search rules
 
-enum-known-e-4 : tie.Need-enum-known-e-4
-enum-known-e-4 c = search rules
+enum_known_e_4 : tie.Need-enum_known-e-in-MemoryWrite-1
+enum_known_e_4 c = search rules
 
-verdict-on-requires : tie.Need-verdict-on-requires
-verdict-on-requires c κs = rw c.before.e4.given.1 at c.before.before.before.requires
+verdict_on_requires : tie.Need-verdict_on-requires
+verdict_on_requires c κs = rw c.in-MemoryWrite.is at c.requires
 
-parts-requires : tie.Need-parts-requires
-parts-requires c κs = search rules
+parts_requires : tie.Need-parts-part-requires
+parts_requires c κs = search rules
 
-add-memory-requires-2 : tie.Need-add-memory-requires-2
-add-memory-requires-2 c κs = search rules
+add_memory_requires_2 : tie.Need-add_memory-requires-in-MemoryWrite
+add_memory_requires_2 c κs = search rules
 
-raise-requires-3 : tie.Need-raise-requires-3
-raise-requires-3 c κs = search rules
+raise_requires_3 : tie.Need-raise-requires-in-MemoryWrite
+raise_requires_3 c κs = search rules
 
-raise-requires-4 : tie.Need-raise-requires-4
-raise-requires-4 c κs = search rules
+raise_requires_4 : tie.Need-raise-requires-in-MemoryWrite-2
+raise_requires_4 c κs = search rules
 
-enum-known-e-5 : tie.Need-enum-known-e-5
-enum-known-e-5 c = search rules
+enum_known_e_5 : tie.Need-enum_known-e-in-UnknownRead-1
+enum_known_e_5 c = search rules
 
-add-memory-requires-3 : tie.Need-add-memory-requires-3
-add-memory-requires-3 c κs = search rules
+add_memory_requires_3 : tie.Need-add_memory-requires-in-UnknownRead
+add_memory_requires_3 c κs = search rules
 
-enum-known-e-6 : tie.Need-enum-known-e-6
-enum-known-e-6 c = search rules
+enum_known_e_6 : tie.Need-enum_known-e-in-UnknownWrite-1
+enum_known_e_6 c = search rules
 
-add-memory-requires-4 : tie.Need-add-memory-requires-4
-add-memory-requires-4 c κs = search rules
+add_memory_requires_4 : tie.Need-add_memory-requires-in-UnknownWrite
+add_memory_requires_4 c κs = search rules
 
-returns : tie.Need-returns
+returns : tie.Need-returns-in-RegisterRead
 unfolding additions raised_by
-returns c = rw c.before.before.before.before.e.given.1 c.raise.ensures
+returns c = rw c.in-RegisterRead.is c.raise.ensures
 
-returns-2 : tie.Need-returns-2
+returns_2 : tie.Need-returns-in-RegisterWrite
 unfolding additions raised_by
-returns-2 c = rw c.before.before.before.before.e2.given.1 c.raise2.ensures
+returns_2 c = rw c.in-RegisterWrite.is c.raise-in-RegisterWrite.ensures
 
-returns-3 : tie.Need-returns-3
+returns_3 : tie.Need-returns-in-MemoryRead
 unfolding additions
-returns-3 c = rw c.before.before.before.e3.given.1 c.add-memory.ensures
+returns_3 c = rw c.in-MemoryRead.is c.add_memory.ensures
 
-returns-4 : tie.Need-returns-4
+returns_4 : tie.Need-returns-in-MemoryWrite
 unfolding additions raised_by verdict_of
-returns-4 c = rw c.before.before.before.before.before.before.before.before.before.e4.given.1 (c.raise4.ensures ∙ ap₂ (λ (w : List ℕ) (n : ℕ). raised w part_word n) (c.before.before.raise3.ensures ∙ ap (λ (w : List ℕ). raised w known_word 1) c.before.before.before.before.add-memory2.ensures) (c.before.before.before.before.before.before.parts.ensures ∙ ap parts c.before.before.before.before.before.before.before.verdict-on.ensures))
+returns_4 c = rw c.in-MemoryWrite.is (c.raise-in-MemoryWrite-2.ensures ∙ ap₂ (λ (w : List ℕ) (n : ℕ). raised w part_word n) (c.raise-in-MemoryWrite.ensures ∙ ap (λ (w : List ℕ). raised w known_word 1) c.add_memory-in-MemoryWrite.ensures) (c.parts-part.ensures ∙ ap parts c.verdict_on.ensures))
 
-returns-5 : tie.Need-returns-5
+returns_5 : tie.Need-returns-in-UnknownRead
 unfolding additions
-returns-5 c = rw c.before.before.before.e5.given.1 c.add-memory3.ensures
+returns_5 c = rw c.in-UnknownRead.is c.add_memory-in-UnknownRead.ensures
 
-returns-6 : tie.Need-returns-6
+returns_6 : tie.Need-returns-in-UnknownWrite
 unfolding additions
-returns-6 c = rw c.before.before.before.e6.given.1 c.add-memory4.ensures
+returns_6 c = rw c.in-UnknownWrite.is c.add_memory-in-UnknownWrite.ensures
 
-pub add-event-spec : {M : Type 1} → statement M
-add-event-spec =
+pub add_event_spec : {M : Type 1} → statement M
+add_event_spec =
     tie.close
     (tie.spec
-    enum-known-e
-    cast-raise
-    add-raise
-    raise-requires
-    enum-known-e-2
-    cast-raise-2
-    add-raise-2
-    raise-requires-2
-    enum-known-e-3
-    add-memory-requires
-    enum-known-e-4
-    verdict-on-requires
-    parts-requires
-    add-memory-requires-2
-    raise-requires-3
-    raise-requires-4
-    enum-known-e-5
-    add-memory-requires-3
-    enum-known-e-6
-    add-memory-requires-4
+    enum_known_e
+    cast_raise
+    add_raise
+    raise_requires
+    enum_known_e_2
+    cast_raise_2
+    add_raise_2
+    raise_requires_2
+    enum_known_e_3
+    add_memory_requires
+    enum_known_e_4
+    verdict_on_requires
+    parts_requires
+    add_memory_requires_2
+    raise_requires_3
+    raise_requires_4
+    enum_known_e_5
+    add_memory_requires_3
+    enum_known_e_6
+    add_memory_requires_4
     returns
-    returns-2
-    returns-3
-    returns-4
-    returns-5
-    returns-6)
+    returns_2
+    returns_3
+    returns_4
+    returns_5
+    returns_6)

@@ -3,18 +3,18 @@ use Rattle.std.proofs.Common.{rules}
 use Rattle.totals.proofs.words.add_memory.Statement.{statement}
 use Rattle.totals.proofs.words.add_memory.Tie as tie
 
-add-raise : tie.Need-overflow-add-raise
-add-raise c = search rules
+add_raise : tie.Need-overflow_add-n
+add_raise c = search rules
 
-raise-requires : tie.Need-raise-requires
-raise-requires c κs = search rules
+raise_requires : tie.Need-raise-requires
+raise_requires c κs = search rules
 
-raise-requires-2 : tie.Need-raise-requires-2
-raise-requires-2 c κs = search rules
+raise_requires_2 : tie.Need-raise-requires-2
+raise_requires_2 c κs = search rules
 
 returns : tie.Need-returns
 unfolding raised_by
 returns c = cc
 
-pub add-memory-spec : {M : Type 1} → statement M
-add-memory-spec = tie.close (tie.spec add-raise raise-requires raise-requires-2 returns)
+pub add_memory_spec : {M : Type 1} → statement M
+add_memory_spec = tie.close (tie.spec add_raise raise_requires raise_requires_2 returns)

@@ -3,37 +3,37 @@ use Rattle.totals.specs.Sheets.{raised}
 use Rattle.totals.proofs.words.raise.Statement.{statement}
 use Rattle.totals.proofs.words.raise.Tie as tie
 
-mul-wrapping-add-u64 : tie.Need-overflow-mul-wrapping-add-u64
-mul-wrapping-add-u64 c = search rules
+mul_wrapping_add_u64 : tie.Need-offset_bounds-words-i
+mul_wrapping_add_u64 c = search rules
 
-element-copy-out-wrapping-add-u64 : tie.Need-element-copy-out-wrapping-add-u64
-element-copy-out-wrapping-add-u64 c = search rules
+element_copy_out_wrapping_add_u64 : tie.Need-bounds-words-i
+element_copy_out_wrapping_add_u64 c = search rules
 
-wrapping-add-u64-requires : tie.Need-wrapping-add-u64-requires
-wrapping-add-u64-requires c κs = search rules
+wrapping_add_u64_requires : tie.Need-wrapping_add_u64-requires
+wrapping_add_u64_requires c κs = search rules
 
-mul_words : tie.Need-overflow-mul-words
+mul_words : tie.Need-offset_bounds-words-i-then-i-lt-WORDS
 mul_words c = search rules
 
-element-write-words : tie.Need-element-write-words
-element-write-words c = search rules
+element_write_words : tie.Need-bounds-words-i-then-i-lt-WORDS
+element_write_words c = search rules
 
-returns : tie.Need-returns
+returns : tie.Need-returns-then-i-lt-WORDS
 unfolding raised
-returns c = rw (lt-ltb _ _ c.before.before.if1.true, c.wrapping-add-u64.ensures)
+returns c = rw (lt-ltb _ _ c.if-i-lt-WORDS.true, c.wrapping_add_u64.ensures)
 
-returns-2 : tie.Need-returns-2
+returns_2 : tie.Need-returns-else-i-lt-WORDS
 unfolding raised
-returns-2 c = rw (le-ltb _ _ c.if1.false)
+returns_2 c = rw (le-ltb _ _ c.if-i-lt-WORDS.false)
 
-pub raise-spec : {M : Type 1} → statement M
-raise-spec =
+pub raise_spec : {M : Type 1} → statement M
+raise_spec =
     tie.close
     (tie.spec
-    mul-wrapping-add-u64
-    element-copy-out-wrapping-add-u64
-    wrapping-add-u64-requires
+    mul_wrapping_add_u64
+    element_copy_out_wrapping_add_u64
+    wrapping_add_u64_requires
     mul_words
-    element-write-words
+    element_write_words
     returns
-    returns-2)
+    returns_2)

@@ -10,79 +10,79 @@ use Rattle.watch_words.proofs.bits.verdict_bits.Tie as tie
 
 -- the place behind an event that was named
 ahead :
-    (c : tie.After-known-told) →
-    let at = c.before.before.before.before.before.args.at in
-    let next = c.before.found.given.0.1.1.0 in (at < next) × (next - at ≤ 10)
+    (c : tie.In-Named) →
+    let at = c.args.at in
+    let next = c.in-Named.next in (at < next) × (next - at ≤ 10)
 ahead c =
-    let s = c.before.before.before in
-    let x = s.before.before.args in
-    name_leads (variable x.address x.length) x.log.now x.at (sym s.name-event.ensures ∙ c.before.found.given.1)
+    let s = c in
+    let x = s.args in
+    name_leads (variable x.address x.length) x.log.now x.at (sym s.name_event-found.ensures ∙ c.in-Named.is)
 
-name-event-requires : tie.Need-name-event-requires
-name-event-requires c κs = search rules
+name_event_requires : tie.Need-name_event-found-requires
+name_event_requires c κs = search rules
 
-enum-known-found : tie.Need-enum-known-found
-enum-known-found c = search rules
+enum_known_found : tie.Need-enum_known-found
+enum_known_found c = search rules
 
-verdict-number-requires : tie.Need-verdict-number-requires
-verdict-number-requires c κs = search rules
+verdict_number_requires : tie.Need-verdict_number-requires
+verdict_number_requires c κs = search rules
 
-mul_low : tie.Need-overflow-mul-low
+mul_low : tie.Need-overflow_mul-low
 mul_low c = search rules
 
-cast-low : tie.Need-overflow-cast-low
-cast-low c = search rules
+cast_low : tie.Need-overflow_cast-low
+cast_low c = search rules
 
-mul-low-2 : tie.Need-overflow-mul-low-2
-mul-low-2 c = search rules
+mul_low_2 : tie.Need-overflow_mul-low-in-Named
+mul_low_2 c = search rules
 
-add_low : tie.Need-overflow-add-low
+add_low : tie.Need-overflow_add-low
 add_low c = search rules
 
-sub-result : tie.Need-overflow-sub-result
-sub-result c = omega (arith, ahead c.before)
+sub_result : tie.Need-overflow_sub-result
+sub_result c = omega (arith, ahead c.before)
 
-mul-result : tie.Need-overflow-mul-result
-mul-result c = omega (arith, ahead c.before)
+mul_result : tie.Need-overflow_mul-result
+mul_result c = omega (arith, ahead c.before)
 
-add-result : tie.Need-overflow-add-result
-add-result c = omega (arith, ahead c.before, c.verdict-number.ensures)
+add_result : tie.Need-overflow_add-result
+add_result c = omega (arith, ahead c.before, c.verdict_number.ensures)
 
-enum-known-found-2 : tie.Need-enum-known-found-2
-enum-known-found-2 c = search rules
+enum_known_found_2 : tie.Need-enum_known-found-in-Unnamed-1
+enum_known_found_2 c = search rules
 
-cast-result : tie.Need-overflow-cast-result
-cast-result c = search rules
+cast_result : tie.Need-overflow_cast-result
+cast_result c = search rules
 
-enum_told : tie.Need-enum-told
+enum_told : tie.Need-enum_told-1
 enum_told c = search rules
 
-returns : tie.Need-returns
-returns c = rw (sym c.before.before.before.before.name-event.ensures ∙ c.before.before.found.given.1) (omega (arith, c.verdict-number.ensures))
+returns : tie.Need-returns-in-Named
+returns c = rw (sym c.name_event-found.ensures ∙ c.in-Named.is) (omega (arith, c.verdict_number.ensures))
 
-returns-2 : tie.Need-returns-2
-returns-2 c = rw (sym c.before.before.before.name-event.ensures ∙ c.before.found2.given.1)
+returns_2 : tie.Need-returns-in-Unnamed
+returns_2 c = rw (sym c.name_event-found.ensures ∙ c.in-Unnamed.is)
 
-returns-3 : tie.Need-returns-3
-returns-3 c = rw (sym c.before.before.name-event.ensures ∙ c.enum_told.given.1)
+returns_3 : tie.Need-returns-in-Ended
+returns_3 c = rw (sym c.name_event-found.ensures ∙ c.in-Ended.is)
 
-pub verdict-bits-spec : {M : Type 1} → statement M
-verdict-bits-spec =
+pub verdict_bits_spec : {M : Type 1} → statement M
+verdict_bits_spec =
     tie.close
     (tie.spec
-    name-event-requires
-    enum-known-found
-    verdict-number-requires
+    name_event_requires
+    enum_known_found
+    verdict_number_requires
     mul_low
-    cast-low
-    mul-low-2
+    cast_low
+    mul_low_2
     add_low
-    sub-result
-    mul-result
-    add-result
-    enum-known-found-2
-    cast-result
+    sub_result
+    mul_result
+    add_result
+    enum_known_found_2
+    cast_result
     enum_told
     returns
-    returns-2
-    returns-3)
+    returns_2
+    returns_3)

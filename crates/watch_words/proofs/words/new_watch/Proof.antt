@@ -4,35 +4,35 @@ use borrow.Author.Rules.{rules}
 use Rattle.watch_words.proofs.words.new_watch.Statement.{statement}
 use Rattle.watch_words.proofs.words.new_watch.Tie as tie
 
-new-requires : tie.Need-new-requires
-new-requires c κs = search rules
+new_requires : tie.Need-new-made-requires
+new_requires c κs = search rules
 
-enum-known-made : tie.Need-enum-known-made
-enum-known-made c = search rules
+enum_known_made : tie.Need-enum_known-made
+enum_known_made c = search rules
 
-words-of-requires : tie.Need-words-of-requires
-words-of-requires c κs = search rules
+words_of_requires : tie.Need-words_of-requires
+words_of_requires c κs = search rules
 
-enum-known-made-2 : tie.Need-enum-known-made-2
-enum-known-made-2 c = search rules
+enum_known_made_2 : tie.Need-enum_known-made-in-Refused-1
+enum_known_made_2 c = search rules
 
-cast-result : tie.Need-overflow-cast-result
-cast-result c = search rules
+cast_result : tie.Need-overflow_cast-result
+cast_result c = search rules
 
-returns : tie.Need-returns
-returns c = rw (sym c.before.before.before.before.new.ensures ∙ c.before.before.made.given.1, c.words_of.ensures)
+returns : tie.Need-returns-in-Done
+returns c = rw (sym c.new-made.ensures ∙ c.in-Done.is, c.words_of.ensures)
 
-returns-2 : tie.Need-returns-2
-returns-2 c = rw (sym c.before.before.before.new.ensures ∙ c.before.made2.given.1)
+returns_2 : tie.Need-returns-in-Refused
+returns_2 c = rw (sym c.new-made.ensures ∙ c.in-Refused.is)
 
-pub new-watch-spec : {M : Type 1} → statement M
-new-watch-spec =
+pub new_watch_spec : {M : Type 1} → statement M
+new_watch_spec =
     tie.close
     (tie.spec
-    new-requires
-    enum-known-made
-    words-of-requires
-    enum-known-made-2
-    cast-result
+    new_requires
+    enum_known_made
+    words_of_requires
+    enum_known_made_2
+    cast_result
     returns
-    returns-2)
+    returns_2)

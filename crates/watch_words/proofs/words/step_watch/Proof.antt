@@ -12,28 +12,28 @@ use Rattle.watch_words.proofs.words.step_watch.Tie as tie
 
 -- the step of the watch that the words are
 stepped :
-    (c : tie.After-step) →
-    let x = c.before.before.before.before.before.args in c.step.result ≡ step_of (watch_in x.watch.now) (x.bytes.now, x.file.now)
+    (c : tie.After-step-stepped) →
+    let x = c.args in c.step-stepped.result ≡ step_of (watch_in x.watch.now) (x.bytes.now, x.file.now)
 stepped c =
-    let x = c.before.before.before.before.before.args in
-    c.step.ensures ∙ ap (λ (w : Watch). step_of w (x.bytes.now, x.file.now)) c.before.watch-in.ensures
+    let x = c.args in
+    c.step-stepped.ensures ∙ ap (λ (w : Watch). step_of w (x.bytes.now, x.file.now)) c.watch_in.ensures
 
-watch-in-requires : tie.Need-watch-in-requires
-watch-in-requires c κs = search rules
+watch_in_requires : tie.Need-watch_in-requires
+watch_in_requires c κs = search rules
 
-step-requires : tie.Need-step-requires
-step-requires c κs = search rules
+step_requires : tie.Need-step-stepped-requires
+step_requires c κs = search rules
 
-words-of-requires : tie.Need-words-of-requires
-words-of-requires c κs = search rules
+words_of_requires : tie.Need-words_of-requires
+words_of_requires c κs = search rules
 
-stepped-bits-requires : tie.Need-stepped-bits-requires
-stepped-bits-requires c κs = rw c.before.before.step.ensures (step_few _ _)
+stepped_bits_requires : tie.Need-stepped_bits-requires
+stepped_bits_requires c κs = rw c.step-stepped.ensures (step_few _ _)
 
 returns : tie.Need-returns
-returns c = let e = stepped c.before.before.before in (c.before.words_of.ensures ∙ ap (λ (s : Stepped). words_of s.watch) e, c.stepped-bits.ensures ∙ ap stepped_bits e)
+returns c = let e = stepped c.before.before.before in (c.words_of.ensures ∙ ap (λ (s : Stepped). words_of s.watch) e, c.stepped_bits.ensures ∙ ap stepped_bits e)
 
-pub step-watch-spec : {M : Type 1} → statement M
-step-watch-spec =
+pub step_watch_spec : {M : Type 1} → statement M
+step_watch_spec =
     tie.close
-    (tie.spec watch-in-requires step-requires words-of-requires stepped-bits-requires returns)
+    (tie.spec watch_in_requires step_requires words_of_requires stepped_bits_requires returns)

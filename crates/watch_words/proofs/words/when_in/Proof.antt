@@ -3,11 +3,11 @@ use borrow.Author.Tests.{eq-eqb, ne_eqb}
 use Rattle.watch_words.proofs.words.when_in.Statement.{statement}
 use Rattle.watch_words.proofs.words.when_in.Tie as tie
 
-returns : tie.Need-returns
-returns c = rw (eq-eqb c.before.args.word _ c.if1.true)
+returns : tie.Need-returns-then-word-eq-NEVER
+returns c = rw (eq-eqb c.args.word _ c.if-word-eq-NEVER.true)
 
-returns-2 : tie.Need-returns-2
-returns-2 c = rw (ne_eqb c.before.args.word _ c.if1.false)
+returns_2 : tie.Need-returns
+returns_2 c = rw (ne_eqb c.args.word _ c.if-word-eq-NEVER.false)
 
-pub when-in-spec : {M : Type 1} → statement M
-when-in-spec = tie.close (tie.spec returns returns-2)
+pub when_in_spec : {M : Type 1} → statement M
+when_in_spec = tie.close (tie.spec returns returns_2)

@@ -4,46 +4,44 @@ use Rattle.session.proofs.Visited.{append_refused, append_done, fits}
 use Rattle.session.proofs.appends.Session.append.Statement.{statement}
 use Rattle.session.proofs.appends.Session.append.Tie as tie
 
-visit-accesses-requires : tie.Need-visit-accesses-requires
-visit-accesses-requires c κs = search rules
+visit_accesses_requires : tie.Need-visit_accesses-answer-requires
+visit_accesses_requires c κs = search rules
 
-enum-known-answer : tie.Need-enum-known-answer
-enum-known-answer c = search rules
+enum_known_answer : tie.Need-enum_known-answer
+enum_known_answer c = search rules
 
-same_length : tie.Need-same-length
+same_length : tie.Need-shape_of-log-in_default
 same_length c = search rules
 
-returns : tie.Need-returns
+returns : tie.Need-returns-in_default
 returns c =
-    let x = c.before.before.before.before.before.before.before.before.args in
-    let v = c.before.before.before.visit-accesses in
-    append_refused x.bytes.now x.file.now x.log.now x.self v.new.1.1.0 v.result v.ensures c.match.keys2
+    let x = c.args in
+    let v = c.visit_accesses-answer in
+    append_refused x.bytes.now x.file.now x.log.now x.self v.new.log v.result v.ensures c.in_default.in_default-own.keys2
 
-further-requires : tie.Need-further-requires
-further-requires c κs =
-    let x = c.before.before.before.before.before.before.before.before.before.before.before.args in
-    let v = c.before.before.before.before.before.before.visit-accesses in
-    let a = c.before.before.answer.given in
-    fits x.bytes.now x.file.now x.log.now x.self v.new.1.1.0 v.result v.ensures a.0.0 a.1
+further_requires : tie.Need-further-after-requires
+further_requires c κs =
+    let x = c.args in
+    let v = c.visit_accesses-answer in
+    fits x.bytes.now x.file.now x.log.now x.self v.new.log v.result v.ensures c.in-Done.n c.in-Done.is
 
-same-length-2 : tie.Need-same-length-2
-same-length-2 c = search rules
+same_length_2 : tie.Need-shape_of-log
+same_length_2 c = search rules
 
-returns-2 : tie.Need-returns-2
-returns-2 c =
-    let x = c.before.before.before.before.before.before.before.before.before.before.before.before.args in
-    let v = c.before.before.before.before.before.before.before.visit-accesses in
-    let a = c.before.before.before.answer.given in
-    append_done x.bytes.now x.file.now x.log.now x.self v.new.1.1.0 v.result v.ensures a.0.0 a.1 c.further.result c.further.ensures
+returns_2 : tie.Need-returns
+returns_2 c =
+    let x = c.args in
+    let v = c.visit_accesses-answer in
+    append_done x.bytes.now x.file.now x.log.now x.self v.new.log v.result v.ensures c.in-Done.n c.in-Done.is c.further-after.result c.further-after.ensures
 
-pub append-spec : {M : Type 1} → statement M
-append-spec =
+pub append_spec : {M : Type 1} → statement M
+append_spec =
     tie.close
     (tie.spec
-    visit-accesses-requires
-    enum-known-answer
+    visit_accesses_requires
+    enum_known_answer
     same_length
     returns
-    further-requires
-    same-length-2
-    returns-2)
+    further_requires
+    same_length_2
+    returns_2)

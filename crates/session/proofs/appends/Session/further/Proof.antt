@@ -4,43 +4,43 @@ use Rattle.session.specs.Sessions as defined
 use Rattle.session.proofs.appends.Session.further.Statement.{statement}
 use Rattle.session.proofs.appends.Session.further.Tie as tie
 
-add-end : tie.Need-overflow-add-end
-add-end c = search rules
+add_end : tie.Need-overflow_add-end
+add_end c = search rules
 
-sub-count-log : tie.Need-overflow-sub-count-log
-sub-count-log c = search rules
+sub_count_log : tie.Need-slice_bounds-count_log-count
+sub_count_log c = search rules
 
-part-count-log-start : tie.Need-slice-bounds-count-log-start
-part-count-log-start c = search rules
+part_count_log_start : tie.Need-slice_bounds-count_log-start
+part_count_log_start c = search rules
 
-part-count-log-end : tie.Need-slice-bounds-count-log-end
-part-count-log-end c = search rules
+part_count_log_end : tie.Need-slice_bounds-count_log-end
+part_count_log_end c = search rules
 
-count-log-requires : tie.Need-count-log-requires
-count-log-requires c κs = search rules
+count_log_requires : tie.Need-count_log-more-requires
+count_log_requires c κs = search rules
 
-wrapping-add-u64-requires : tie.Need-wrapping-add-u64-requires
-wrapping-add-u64-requires c κs = search rules
+wrapping_add_u64_requires : tie.Need-wrapping_add_u64-requires
+wrapping_add_u64_requires c κs = search rules
 
-wrapping-add-u64-requires-2 : tie.Need-wrapping-add-u64-requires-2
-wrapping-add-u64-requires-2 c κs = search rules
+wrapping_add_u64_requires_2 : tie.Need-wrapping_add_u64-requires-2
+wrapping_add_u64_requires_2 c κs = search rules
 
 returns : tie.Need-returns
 unfolding defined.further
 returns c =
-    let x = c.before.before.before.before.before.args in
+    let x = c.args in
     let n : x.self.used + x.n - x.self.used ≡ x.n = omega arith in
-    rw (c.before.wrapping-add-u64.ensures, c.wrapping-add-u642.ensures, c.before.before.count-log.ensures, n)
+    rw (c.wrapping_add_u64.ensures, c.wrapping_add_u64-2.ensures, c.count_log-more.ensures, n)
 
-pub further-spec : {M : Type 1} → statement M
-further-spec =
+pub further_spec : {M : Type 1} → statement M
+further_spec =
     tie.close
     (tie.spec
-    add-end
-    sub-count-log
-    part-count-log-start
-    part-count-log-end
-    count-log-requires
-    wrapping-add-u64-requires
-    wrapping-add-u64-requires-2
+    add_end
+    sub_count_log
+    part_count_log_start
+    part_count_log_end
+    count_log_requires
+    wrapping_add_u64_requires
+    wrapping_add_u64_requires_2
     returns)

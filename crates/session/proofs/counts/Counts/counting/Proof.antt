@@ -4,19 +4,19 @@ use Rattle.session.proofs.Sums.{unknown_one}
 use Rattle.session.proofs.counts.Counts.counting.Statement.{statement}
 use Rattle.session.proofs.counts.Counts.counting.Tie as tie
 
-add-t3 : tie.Need-overflow-add-t3
-add-t3 c = search rules
+add_t3 : tie.Need-overflow_add-result
+add_t3 c = search rules
 
-unknown-in-requires : tie.Need-unknown-in-requires
-unknown-in-requires c κs = search rules
+unknown_in_requires : tie.Need-unknown_in-requires
+unknown_in_requires c κs = search rules
 
-add-t5 : tie.Need-overflow-add-t5
-add-t5 c =
-    let s = c.before.before.before in
-    omega (arith, s.requires.1, c.before.unknown-in.ensures, unknown_one s.args.e)
+add_t5 : tie.Need-overflow_add-result-2
+add_t5 c =
+    let s = c in
+    omega (arith, s.requires.1, c.unknown_in.ensures, unknown_one s.args.e)
 
 returns : tie.Need-returns
-returns c = rw c.before.unknown-in.ensures
+returns c = rw c.unknown_in.ensures
 
-pub counting-spec : {M : Type 1} → statement M
-counting-spec = tie.close (tie.spec add-t3 unknown-in-requires add-t5 returns)
+pub counting_spec : {M : Type 1} → statement M
+counting_spec = tie.close (tie.spec add_t3 unknown_in_requires add_t5 returns)
