@@ -4,14 +4,14 @@ use borrow.Author.Rules.{rules}
 use Rattle.reader.proofs.chunks.checked.Statement.{statement}
 use Rattle.reader.proofs.chunks.checked.Tie as tie
 
-is-sound-requires : tie.Need-is-sound-requires
-is-sound-requires c κs = search rules
+is_sound_requires : tie.Need-is_sound-requires
+is_sound_requires c κs = search rules
 
-returns : tie.Need-returns
-returns c = let s = c.before.before.before.before in held s.args.r s.args.item.now s.args.file.now (sym c.before.is-sound.ensures ∙ c.if1.true)
+returns : tie.Need-returns-then-is_sound
+returns c = let s = c in held s.args.r s.args.item.now s.args.file.now (sym c.is_sound.ensures ∙ c.if-is_sound.true)
 
-returns-2 : tie.Need-returns-2
-returns-2 c = let s = c.before.before.before.before in not_held s.args.r s.args.item.now s.args.file.now (sym c.before.is-sound.ensures ∙ c.if1.false)
+returns_2 : tie.Need-returns
+returns_2 c = let s = c in not_held s.args.r s.args.item.now s.args.file.now (sym c.is_sound.ensures ∙ c.if-is_sound.false)
 
-pub checked-spec : {M : Type 1} → statement M
-checked-spec = tie.close (tie.spec is-sound-requires returns returns-2)
+pub checked_spec : {M : Type 1} → statement M
+checked_spec = tie.close (tie.spec is_sound_requires returns returns_2)

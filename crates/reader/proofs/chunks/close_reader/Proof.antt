@@ -7,17 +7,17 @@ use borrow.Author.Rules.{rules}
 use Rattle.reader.proofs.chunks.close_reader.Statement.{statement}
 use Rattle.reader.proofs.chunks.close_reader.Tie as tie
 
-checked-requires : tie.Need-checked-requires
-checked-requires c κs = search rules
+checked_requires : tie.Need-checked-s-requires
+checked_requires c κs = search rules
 
-returns : tie.Need-returns
-returns c = let s = c.before.before.before.before in closes_stopped (reader_with c.before.checked.result s.args.item.now s.args.file.now) c.if1.true ∙ ap (λ (x : StreamReader). closing_of x) c.before.checked.ensures.0
+returns : tie.Need-returns-then-s
+returns c = let s = c in closes_stopped (reader_with c.checked-s.result s.args.item.now s.args.file.now) c.if-s.true ∙ ap (λ (x : StreamReader). closing_of x) c.checked-s.ensures.0
 
-returns-2 : tie.Need-returns-2
-returns-2 c = let s = c.before.before.before.before.before.before in closes_between c.before.before.before.checked.result s.args.item.now s.args.file.now c.before.before.before.checked.ensures.1 c.before.before.if1.false c.if2.true ∙ ap (λ (x : StreamReader). closing_of x) c.before.before.before.checked.ensures.0
+returns_2 : tie.Need-returns-then-s-eq0
+returns_2 c = let s = c in closes_between c.checked-s.result s.args.item.now s.args.file.now c.checked-s.ensures.1 c.if-s.false c.if-s-eq0.true ∙ ap (λ (x : StreamReader). closing_of x) c.checked-s.ensures.0
 
-returns-3 : tie.Need-returns-3
-returns-3 c = let s = c.before.before.before.before.before.before in closes_inside c.before.before.before.checked.result s.args.item.now s.args.file.now c.before.before.before.checked.ensures.1 c.before.before.if1.false c.if2.false ∙ ap (λ (x : StreamReader). closing_of x) c.before.before.before.checked.ensures.0
+returns_3 : tie.Need-returns
+returns_3 c = let s = c in closes_inside c.checked-s.result s.args.item.now s.args.file.now c.checked-s.ensures.1 c.if-s.false c.if-s-eq0.false ∙ ap (λ (x : StreamReader). closing_of x) c.checked-s.ensures.0
 
-pub close-reader-spec : {M : Type 1} → statement M
-close-reader-spec = tie.close (tie.spec checked-requires returns returns-2 returns-3)
+pub close_reader_spec : {M : Type 1} → statement M
+close_reader_spec = tie.close (tie.spec checked_requires returns returns_2 returns_3)

@@ -6,25 +6,25 @@ use borrow.Author.Rules.{rules}
 use Rattle.reader.proofs.chunks.is_latest.Statement.{statement}
 use Rattle.reader.proofs.chunks.is_latest.Tie as tie
 
-returns : tie.Need-returns
-returns c = sym (no_file_place _ _ c.if1.true)
+returns : tie.Need-returns-then-file-ne-ITEM_ROOM
+returns c = sym (no_file_place _ _ c.if-file-ne-ITEM_ROOM.true)
 
-returns-2 : tie.Need-returns-2
-returns-2 c = sym (no_file_lem c.before.before.before.args.file.now _ c.before.if1.false c.if2.true)
+returns_2 : tie.Need-returns-then-held-eq0
+returns_2 c = sym (no_file_lem c.args.file.now _ c.if-file-ne-ITEM_ROOM.false c.if-held-eq0.true)
 
-slice-aggregate-is-file : tie.Need-slice-aggregate-is-file
-slice-aggregate-is-file c = let s = c.before.before.before.before.before in sym (length-take-le s.args.held s.args.file.now (omega arith))
+slice_aggregate_is_file : tie.Need-slice_bounds-is_file-end
+slice_aggregate_is_file c = let s = c in sym (length-take-le s.args.held s.args.file.now (omega arith))
 
-is-file-requires : tie.Need-is-file-requires
-is-file-requires c κs = search rules
+is_file_requires : tie.Need-is_file-requires
+is_file_requires c κs = search rules
 
-returns-3 : tie.Need-returns-3
-returns-3 c = let s = c.before.before.before.before.before.before in c.is_file_lem.ensures ∙ some_file s.args.file.now s.args.held c.before.before.before.before.if1.false c.before.before.before.if2.false
+returns_3 : tie.Need-returns-then-held-lt-ITEM_ROOM
+returns_3 c = let s = c in c.is_file.ensures ∙ some_file s.args.file.now s.args.held c.if-file-ne-ITEM_ROOM.false c.if-held-eq0.false
 
-returns-4 : tie.Need-returns-4
-returns-4 c = let s = c.before.before.before.before in sym (too_long s.args.file.now s.args.held c.before.before.if1.false c.before.if2.false c.if3.false)
+returns_4 : tie.Need-returns
+returns_4 c = let s = c in sym (too_long s.args.file.now s.args.held c.if-file-ne-ITEM_ROOM.false c.if-held-eq0.false c.if-held-lt-ITEM_ROOM.false)
 
-pub is-latest-spec : {M : Type 1} → statement M
-is-latest-spec =
+pub is_latest_spec : {M : Type 1} → statement M
+is_latest_spec =
     tie.close
-    (tie.spec returns returns-2 slice-aggregate-is-file is-file-requires returns-3 returns-4)
+    (tie.spec returns returns_2 slice_aggregate_is_file is_file_requires returns_3 returns_4)

@@ -4,21 +4,21 @@ use borrow.Author.Rules.{rules}
 use Rattle.reader.proofs.chunks.is_part.Statement.{statement}
 use Rattle.reader.proofs.chunks.is_part.Tie as tie
 
-returns : tie.Need-returns
-returns c = sym (no_place _ _ c.if1.true)
+returns : tie.Need-returns-then-item-ne-ITEM_ROOM
+returns c = sym (no_place _ _ c.if-item-ne-ITEM_ROOM.true)
 
-returns-2 : tie.Need-returns-2
-returns-2 c = sym (no_part c.before.before.before.args.item.now _ c.before.if1.false c.if2.true)
+returns_2 : tie.Need-returns-then-kept-eq0
+returns_2 c = sym (no_part c.args.item.now _ c.if-item-ne-ITEM_ROOM.false c.if-kept-eq0.true)
 
-shared-slice-read-length-of : tie.Need-shared-slice-read-length-of
-shared-slice-read-length-of c = search rules
+shared_slice_read_length_of : tie.Need-bounds-item-0
+shared_slice_read_length_of c = search rules
 
-length-of-requires : tie.Need-length-of-requires
-length-of-requires c κs = search rules
+length_of_requires : tie.Need-length_of-requires
+length_of_requires c κs = search rules
 
-returns-3 : tie.Need-returns-3
-returns-3 c = let s = c.before.before.before.before.before in rw c.length-of.ensures.0 (some_part s.args.item.now s.args.kept c.before.before.before.if1.false c.before.before.if2.false)
+returns_3 : tie.Need-returns
+returns_3 c = let s = c in rw c.length_of.ensures.0 (some_part s.args.item.now s.args.kept c.if-item-ne-ITEM_ROOM.false c.if-kept-eq0.false)
 
-pub is-part-spec : {M : Type 1} → statement M
-is-part-spec =
-    tie.close (tie.spec returns returns-2 shared-slice-read-length-of length-of-requires returns-3)
+pub is_part_spec : {M : Type 1} → statement M
+is_part_spec =
+    tie.close (tie.spec returns returns_2 shared_slice_read_length_of length_of_requires returns_3)

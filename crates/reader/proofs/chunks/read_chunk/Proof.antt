@@ -8,87 +8,87 @@ use borrow.Author.Rules.{rules}
 use Rattle.reader.proofs.chunks.read_chunk.Statement.{statement}
 use Rattle.reader.proofs.chunks.read_chunk.Tie as tie
 
-checked-requires : tie.Need-checked-requires
-checked-requires c κs = search rules
+checked_requires : tie.Need-checked-s-requires
+checked_requires c κs = search rules
 
-unfinished-requires : tie.Need-unfinished-requires
-unfinished-requires c κs = search rules
+unfinished_requires : tie.Need-unfinished-requires
+unfinished_requires c κs = search rules
 
-same_length : tie.Need-same-length
+same_length : tie.Need-shape_of-item-then-s
 same_length c = search rules
 
-same-length-2 : tie.Need-same-length-2
-same-length-2 c = search rules
+same_length_2 : tie.Need-shape_of-file-then-s
+same_length_2 c = search rules
 
-returns : tie.Need-returns
-returns c = let s = c.before.before.before.before.before.before.before.before.before in let e = c.before.before.checked.ensures in let k = e.1 in (
-  rw c.unfinished.ensures (stopped_reply (reader_with c.before.before.checked.result s.args.item.now s.args.file.now) s.args.chunk.now s.args.log.now s.args.start c.before.if1.true
+returns : tie.Need-returns-then-s
+returns c = let s = c in let e = c.checked-s.ensures in let k = e.1 in (
+  rw c.unfinished.ensures (stopped_reply (reader_with c.checked-s.result s.args.item.now s.args.file.now) s.args.chunk.now s.args.log.now s.args.start c.if-s.true
       ∙ ap (λ (x : StreamReader). handed_to x s.args.chunk.now s.args.log.now s.args.start) e.0),
   rw c.unfinished.ensures (record { kept = k.inside; held = k.held; count = omega arith }),
 )
 
-lacks-room-requires : tie.Need-lacks-room-requires
-lacks-room-requires c κs = search rules
+lacks_room_requires : tie.Need-lacks_room-requires
+lacks_room_requires c κs = search rules
 
-unfinished-requires-2 : tie.Need-unfinished-requires-2
-unfinished-requires-2 c κs = search rules
+unfinished_requires_2 : tie.Need-unfinished-requires-then-lacks_room
+unfinished_requires_2 c κs = search rules
 
-same-length-3 : tie.Need-same-length-3
-same-length-3 c = search rules
+same_length_3 : tie.Need-shape_of-item-then-lacks_room
+same_length_3 c = search rules
 
-same-length-4 : tie.Need-same-length-4
-same-length-4 c = search rules
+same_length_4 : tie.Need-shape_of-file-then-lacks_room
+same_length_4 c = search rules
 
-returns-2 : tie.Need-returns-2
-returns-2 c = let s = c.before.before.before.before.before.before.before.before.before.before.before in let e = c.before.before.before.before.checked.ensures in let k = e.1 in (
-  rw c.unfinished2.ensures (early_reply (reader_with c.before.before.before.before.checked.result s.args.item.now s.args.file.now) s.args.chunk.now s.args.log.now s.args.start c.before.before.before.if1.false (sym c.before.before.lacks_room_lem.ensures ∙ c.before.if2.true)
+returns_2 : tie.Need-returns-then-lacks_room
+returns_2 c = let s = c in let e = c.checked-s.ensures in let k = e.1 in (
+  rw c.unfinished-then-lacks_room.ensures (early_reply (reader_with c.checked-s.result s.args.item.now s.args.file.now) s.args.chunk.now s.args.log.now s.args.start c.if-s.false (sym c.lacks_room.ensures ∙ c.if-lacks_room.true)
       ∙ ap (λ (x : StreamReader). handed_to x s.args.chunk.now s.args.log.now s.args.start) e.0),
-  rw c.unfinished2.ensures (record { kept = k.inside; held = k.held; count = omega arith }),
+  rw c.unfinished-then-lacks_room.ensures (record { kept = k.inside; held = k.held; count = omega arith }),
 )
 
-take-items-requires : tie.Need-take-items-requires
-take-items-requires c κs = let s = c.before.before.before.before.before.before.before.before.before.before.before.before in (ready c.before.before.before.before.before.checked.result s.args.item.now s.args.file.now c.before.before.before.before.before.checked.ensures.1 c.before.before.before.before.if1.false, omega arith)
+take_items_requires : tie.Need-take_items-u-requires
+take_items_requires c κs = let s = c in (ready c.checked-s.result s.args.item.now s.args.file.now c.checked-s.ensures.1 c.if-s.false, omega arith)
 
-answer-requires : tie.Need-answer-requires
-answer-requires c κs = let s = c.before.before.before.before.before.before.before.before.before.before.before.before.before.before.before.before.before.before.before.before in (c.before.before.before.before.before.before.before.take-items.ensures.1.sized, has_room s.args.start (length s.args.log.now) (sym c.before.before.before.before.before.before.before.before.before.before.before.lacks_room_lem.ensures ∙ c.before.before.before.before.before.before.before.before.before.before.if2.false))
+answer_requires : tie.Need-answer-requires
+answer_requires c κs = let s = c in (c.take_items-u.ensures.1.sized, has_room s.args.start (length s.args.log.now) (sym c.lacks_room.ensures ∙ c.if-lacks_room.false))
 
-same-length-5 : tie.Need-same-length-5
-same-length-5 c = search rules
+same_length_5 : tie.Need-shape_of-item
+same_length_5 c = search rules
 
-same-length-6 : tie.Need-same-length-6
-same-length-6 c = search rules
+same_length_6 : tie.Need-shape_of-file
+same_length_6 c = search rules
 
-same-length-7 : tie.Need-same-length-7
-same-length-7 c = search rules
+same_length_7 : tie.Need-shape_of-log
+same_length_7 c = search rules
 
-returns-3 : tie.Need-returns-3
-returns-3 c = let s = c.before.before.before.before.before.before.before.before.before.before.before.before.before.before.before.before.before.before.before.before.before.before.before in let e = c.before.before.before.before.before.before.before.before.before.before.before.before.before.before.before.before.checked.ensures in let x = c.before.before.before.before.before.before.before.before.before.before.before.before.before.before.before.before.checked.result in
-    let goes = c.before.before.before.before.before.before.before.before.before.before.before.before.before.before.before.if1.false in
-    let room = sym c.before.before.before.before.before.before.before.before.before.before.before.before.before.before.lacks_room_lem.ensures ∙ c.before.before.before.before.before.before.before.before.before.before.before.before.before.if2.false in
-    let brought = c.before.before.before.before.before.before.before.before.before.before.take-items.ensures.0 ∙ begins x s.args.item.now s.args.file.now e.1 goes s.args.chunk.now in (
-      c.before.before.answer.ensures.0
-          ∙ chunk_reply (reader_with x s.args.item.now s.args.file.now) s.args.chunk.now s.args.log.now s.args.start c.before.before.before.before.before.before.before.before.before.before.take-items.result c.before.before.before.before.before.before.before.before.before.before.take-items.new.1.0 c.before.before.before.before.before.before.before.before.before.before.take-items.new.1.1.0 goes room c.before.before.before.before.before.before.before.before.before.before.take-items.ensures.2 brought
+returns_3 : tie.Need-returns
+returns_3 c = let s = c in let e = c.checked-s.ensures in let x = c.checked-s.result in
+    let goes = c.if-s.false in
+    let room = sym c.lacks_room.ensures ∙ c.if-lacks_room.false in
+    let brought = c.take_items-u.ensures.0 ∙ begins x s.args.item.now s.args.file.now e.1 goes s.args.chunk.now in (
+      c.answer.ensures.0
+          ∙ chunk_reply (reader_with x s.args.item.now s.args.file.now) s.args.chunk.now s.args.log.now s.args.start c.take_items-u.result c.take_items-u.new.item c.take_items-u.new.file goes room c.take_items-u.ensures.2 brought
           ∙ ap (λ (x : StreamReader). handed_to x s.args.chunk.now s.args.log.now s.args.start) e.0,
-      c.before.before.answer.ensures.1,
+      c.answer.ensures.1,
     )
 
-pub read-chunk-spec : {M : Type 1} → statement M
-read-chunk-spec =
+pub read_chunk_spec : {M : Type 1} → statement M
+read_chunk_spec =
     tie.close
     (tie.spec
-    checked-requires
-    unfinished-requires
+    checked_requires
+    unfinished_requires
     same_length
-    same-length-2
+    same_length_2
     returns
-    lacks-room-requires
-    unfinished-requires-2
-    same-length-3
-    same-length-4
-    returns-2
-    take-items-requires
-    answer-requires
-    same-length-5
-    same-length-6
-    same-length-7
-    returns-3)
+    lacks_room_requires
+    unfinished_requires_2
+    same_length_3
+    same_length_4
+    returns_2
+    take_items_requires
+    answer_requires
+    same_length_5
+    same_length_6
+    same_length_7
+    returns_3)

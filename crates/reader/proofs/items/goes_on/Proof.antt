@@ -3,35 +3,35 @@ use borrow.Author.Rules.{rules}
 use Rattle.reader.proofs.items.goes_on_lem.Statement.{statement}
 use Rattle.reader.proofs.items.goes_on_lem.Tie as tie
 
-enum_told : tie.Need-enum-told
+enum_told : tie.Need-enum_told-1
 enum_told c = search rules
 
-enum-told-2 : tie.Need-enum-told-2
-enum-told-2 c = search rules
+enum_told_2 : tie.Need-enum_told-in-Unknown
+enum_told_2 c = search rules
 
-enum-told-3 : tie.Need-enum-told-3
-enum-told-3 c = search rules
+enum_told_3 : tie.Need-enum_told-in-BadFile
+enum_told_3 c = search rules
 
-enum-told-4 : tie.Need-enum-told-4
-enum-told-4 c = search rules
+enum_told_4 : tie.Need-enum_told-in-Record
+enum_told_4 c = search rules
 
-returns : tie.Need-returns
+returns : tie.Need-returns-in-Nothing
 unfolding goes_on
-returns c = rw c.before.enum_told.given.1
+returns c = rw c.in-Nothing.is
 
-returns-2 : tie.Need-returns-2
+returns_2 : tie.Need-returns-in-Unknown
 unfolding goes_on
-returns-2 c = search rules
+returns_2 c = search rules
 
-returns-3 : tie.Need-returns-3
+returns_3 : tie.Need-returns-in-BadFile
 unfolding goes_on
-returns-3 c = search rules
+returns_3 c = search rules
 
-returns-4 : tie.Need-returns-4
+returns_4 : tie.Need-returns-in-Record
 unfolding goes_on
-returns-4 c = search rules
+returns_4 c = search rules
 
-pub goes-on-spec : {M : Type 1} → statement M
-goes-on-spec =
+pub goes_on_spec : {M : Type 1} → statement M
+goes_on_spec =
     tie.close
-    (tie.spec enum_told enum-told-2 enum-told-3 enum-told-4 returns returns-2 returns-3 returns-4)
+    (tie.spec enum_told enum_told_2 enum_told_3 enum_told_4 returns returns_2 returns_3 returns_4)

@@ -12,60 +12,60 @@ use borrow.Author.Rules.{rules}
 use Rattle.reader.proofs.items.settle.Statement.{statement}
 use Rattle.reader.proofs.items.settle.Tie as tie
 
-shared-slice-read-of-file : tie.Need-shared-slice-read-of-file
-shared-slice-read-of-file c = search rules
+shared_slice_read_of_file : tie.Need-bounds-item-0
+shared_slice_read_of_file c = search rules
 
-of-file-requires : tie.Need-of-file-requires
-of-file-requires c κs = search rules
+of_file_requires : tie.Need-of_file-requires
+of_file_requires c κs = search rules
 
-slice-aggregate-is-file : tie.Need-slice-aggregate-is-file
-slice-aggregate-is-file c = let s = c.before.before.before.before.before.before in sym (length-take-le s.args.t.kept s.args.item.now (omega (arith, s.requires.0.kept, s.requires.0.place)))
+slice_aggregate_is_file : tie.Need-slice_bounds-is_file-end
+slice_aggregate_is_file c = let s = c in sym (length-take-le s.args.t.kept s.args.item.now (omega (arith, s.requires.0.kept, s.requires.0.place)))
 
-is-file-requires : tie.Need-is-file-requires
-is-file-requires c κs = search rules
+is_file_requires : tie.Need-is_file-requires
+is_file_requires c κs = search rules
 
-slice-aggregate-fill : tie.Need-slice-aggregate-fill
-slice-aggregate-fill c = let s = c.before.before.before.before.before.before.before.before.before.before in sym (length-take-le s.args.t.kept s.args.item.now (omega (arith, s.requires.0.kept, s.requires.0.place)))
+slice_aggregate_fill : tie.Need-slice_bounds-fill-end
+slice_aggregate_fill c = let s = c in sym (length-take-le s.args.t.kept s.args.item.now (omega (arith, s.requires.0.kept, s.requires.0.place)))
 
-fill-requires : tie.Need-fill-requires
-fill-requires c κs = let s = c.before.before.before.before.before.before.before.before.before.before in omega (arith, length-take s.args.t.kept s.args.item.now, s.requires.0.kept, s.requires.0.place, s.requires.0.beside)
+fill_requires : tie.Need-fill-requires
+fill_requires c κs = let s = c in omega (arith, length-take s.args.t.kept s.args.item.now, s.requires.0.kept, s.requires.0.place, s.requires.0.beside)
 
-same_length : tie.Need-same-length
+same_length : tie.Need-shape_of-file-then-is_file
 same_length c = search rules
 
-returns : tie.Need-returns
-returns c = let s = c.before.before.before.before.before.before.before.before.before.before.before.before.before in let z = s.requires.0 in (
-  λ x. ap (λ (p : List ℕ). onward (taking Nothing 0 s.args.t.kept s.args.t.taken) s.args.item.now p x) c.before.before.fill.ensures
-      ∙ good_file s.args.t s.args.item.now s.args.file.now z s.requires.1 x (sym c.before.before.before.before.before.before.before.before.before.of-file.ensures ∙ c.before.before.before.before.before.before.before.before.if1.true) (sym c.before.before.before.before.before.before.is_file_lem.ensures ∙ c.before.before.before.before.before.if2.true),
+returns : tie.Need-returns-then-is_file
+returns c = let s = c in let z = s.requires.0 in (
+  λ x. ap (λ (p : List ℕ). onward (taking Nothing 0 s.args.t.kept s.args.t.taken) s.args.item.now p x) c.fill.ensures
+      ∙ good_file s.args.t s.args.item.now s.args.file.now z s.requires.1 x (sym c.of_file.ensures ∙ c.if-of_file.true) (sym c.is_file.ensures ∙ c.if-is_file.true),
   refl,
-  record { sized = record { place = z.place; beside = c.before.file.given ∙ z.beside; kept = omega arith; held = z.kept }; part = inl refl },
+  record { sized = record { place = z.place; beside = c.file-1.given ∙ z.beside; kept = omega arith; held = z.kept }; part = inl refl },
 )
 
-returns-2 : tie.Need-returns-2
-returns-2 c = let s = c.before.before.before.before.before.before.before.before in let z = s.requires.0 in (
-  λ x. bad_file_lem s.args.t s.args.item.now s.args.file.now z s.requires.1 x (sym c.before.before.before.before.of-file.ensures ∙ c.before.before.before.if1.true) (sym c.before.is_file_lem.ensures ∙ c.if2.false),
-  refl,
-  record { sized = record { place = z.place; beside = z.beside; kept = z.kept; held = z.held }; part = tt },
-)
-
-returns-3 : tie.Need-returns-3
-returns-3 c = let s = c.before.before.before.before.before in let z = s.requires.0 in (
-  λ x. whole_record s.args.t s.args.item.now s.args.file.now z s.requires.1 x (sym c.before.of-file.ensures ∙ c.if1.false),
+returns_2 : tie.Need-returns-then-of_file
+returns_2 c = let s = c in let z = s.requires.0 in (
+  λ x. bad_file_lem s.args.t s.args.item.now s.args.file.now z s.requires.1 x (sym c.of_file.ensures ∙ c.if-of_file.true) (sym c.is_file.ensures ∙ c.if-is_file.false),
   refl,
   record { sized = record { place = z.place; beside = z.beside; kept = z.kept; held = z.held }; part = tt },
 )
 
-pub settle-spec : {M : Type 1} → statement M
-settle-spec =
+returns_3 : tie.Need-returns
+returns_3 c = let s = c in let z = s.requires.0 in (
+  λ x. whole_record s.args.t s.args.item.now s.args.file.now z s.requires.1 x (sym c.of_file.ensures ∙ c.if-of_file.false),
+  refl,
+  record { sized = record { place = z.place; beside = z.beside; kept = z.kept; held = z.held }; part = tt },
+)
+
+pub settle_spec : {M : Type 1} → statement M
+settle_spec =
     tie.close
     (tie.spec
-    shared-slice-read-of-file
-    of-file-requires
-    slice-aggregate-is-file
-    is-file-requires
-    slice-aggregate-fill
-    fill-requires
+    shared_slice_read_of_file
+    of_file_requires
+    slice_aggregate_is_file
+    is_file_requires
+    slice_aggregate_fill
+    fill_requires
     same_length
     returns
-    returns-2
-    returns-3)
+    returns_2
+    returns_3)

@@ -2,11 +2,11 @@ use native.Mathlib.Omega.{arith}
 use Rattle.reader.proofs.items.smaller.Statement.{statement}
 use Rattle.reader.proofs.items.smaller.Tie as tie
 
-returns : tie.Need-returns
+returns : tie.Need-returns-then-a-b
 returns c = omega arith
 
-returns-2 : tie.Need-returns-2
-returns-2 c = omega arith
+returns_2 : tie.Need-returns-else-a-b
+returns_2 c = omega arith
 
-pub smaller-spec : {M : Type 1} → statement M
-smaller-spec = tie.close (tie.spec returns returns-2)
+pub smaller_spec : {M : Type 1} → statement M
+smaller_spec = tie.close (tie.spec returns returns_2)

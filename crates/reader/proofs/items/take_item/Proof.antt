@@ -15,140 +15,140 @@ use Rattle.reader.proofs.items.take_item.Statement.{statement}
 use Rattle.reader.proofs.items.take_item.Tie as tie
 
 -- the item's length, by the byte that comes next
-long-is : (c : tie.After-length-of) → let s = c.before.before.before.before.before.before.before in
-    c.length-of.result ≡ length_of (get_or (take s.args.t.kept s.args.item.now ++ (get_or s.args.chunk.now s.args.t.taken 0 ∷ [])) 0 0)
-long-is c = c.length-of.ensures.0 ∙ ap length_of c.before.kind-of.ensures
+long_is : (c : tie.After-length_of-long) → let s = c in
+    c.length_of-long.result ≡ length_of (get_or (take s.args.t.kept s.args.item.now ++ (get_or s.args.chunk.now s.args.t.taken 0 ∷ [])) 0 0)
+long_is c = c.length_of-long.ensures.0 ∙ ap length_of c.kind_of.ensures
 
 -- a known kind has more bytes than are kept
-shorter : (c : tie.Else1) → c.before.before.before.before.before.before.before.before.args.t.kept < c.before.length-of.result
+shorter : (c : tie.Else-long-eq0) → c.args.t.kept < c.length_of-long.result
 shorter c =
-    let s = c.before.before.before.before.before.before.before.before in
-    rw (long-is c.before)
-    (below s.args.t s.args.item.now s.args.file.now s.args.chunk.now s.pre.0 s.pre.1 (λ e. c.if1.left (long-is c.before ∙ e)))
+    let s = c in
+    rw (long_is c.before)
+    (below s.args.t s.args.item.now s.args.file.now s.args.chunk.now s.pre.0 s.pre.1 (λ e. c.if-long-eq0.left (long_is c.before ∙ e)))
 
 -- how many bytes are taken
-taken : (c : tie.After-smaller) → let s = c.before.before.before.before.before.before.before.before.before in let n = c.smaller.result in
-    (0 < n) × (s.args.t.taken + n ≤ length s.args.chunk.now) × (s.args.t.kept + n ≤ c.before.before.length-of.result)
+taken : (c : tie.After-smaller-n) → let s = c in let n = c.smaller-n.result in
+    (0 < n) × (s.args.t.taken + n ≤ length s.args.chunk.now) × (s.args.t.kept + n ≤ c.length_of-long.result)
 taken c =
-    let s = c.before.before.before.before.before.before.before.before.before in
-    some_taken c.before.before.length-of.result s.args.t.kept s.args.t.taken (length s.args.chunk.now) c.smaller.result c.smaller.ensures (shorter c.before)
+    let s = c in
+    some_taken c.length_of-long.result s.args.t.kept s.args.t.taken (length s.args.chunk.now) c.smaller-n.result c.smaller-n.ensures (shorter c.before)
     (going s.args.t (length s.args.chunk.now) s.pre.1).1
 
 -- where they are laid
-filled : (c : tie.After-fill) → let s = c.before.before.before.before.before.before.before.before.before.before.before.before in
-    c.fill.last.0 ≡ splice s.args.item.now s.args.t.kept (take c.before.before.before.smaller.result (drop s.args.t.taken s.args.chunk.now))
+filled : (c : tie.After-fill) → let s = c in
+    c.fill.last.0 ≡ splice s.args.item.now s.args.t.kept (take c.smaller-n.result (drop s.args.t.taken s.args.chunk.now))
 filled c =
-    let s = c.before.before.before.before.before.before.before.before.before.before.before.before in
-    let n = c.before.before.before.smaller.result in
+    let s = c in
+    let n = c.smaller-n.result in
     let e : s.args.t.taken + n - s.args.t.taken ≡ n = omega arith in
     c.fill.ensures ∙ ap (λ (m : ℕ). splice s.args.item.now s.args.t.kept (take m (drop s.args.t.taken s.args.chunk.now))) e
 
-shared-slice-read-kind-of : tie.Need-shared-slice-read-kind-of
-shared-slice-read-kind-of c = let s = c.before.before.before.before.before in (going s.args.t (length s.args.chunk.now) s.pre.1).1
+shared_slice_read_kind_of : tie.Need-bounds-chunk-at
+shared_slice_read_kind_of c = let s = c in (going s.args.t (length s.args.chunk.now) s.pre.1).1
 
-kind-of-requires : tie.Need-kind-of-requires
-kind-of-requires c κs = search rules
+kind_of_requires : tie.Need-kind_of-requires
+kind_of_requires c κs = search rules
 
-length-of-requires : tie.Need-length-of-requires
-length-of-requires c κs = search rules
+length_of_requires : tie.Need-length_of-long-requires
+length_of_requires c κs = search rules
 
-same_length : tie.Need-same-length
+same_length : tie.Need-shape_of-item-then-long-eq0
 same_length c = search rules
 
-returns : tie.Need-returns
-returns c = let s = c.before.before.before.before.before.before.before.before in let z = s.pre.0.sized in (
-  unknown_here s.args.t s.args.item.now s.args.file.now s.args.chunk.now s.pre.0 s.pre.1 (sym (long-is c.before) ∙ c.if1.taken),
+returns : tie.Need-returns-then-long-eq0
+returns c = let s = c in let z = s.pre.0.sized in (
+  unknown_here s.args.t s.args.item.now s.args.file.now s.args.chunk.now s.pre.0 s.pre.1 (sym (long_is c.before) ∙ c.if-long-eq0.taken),
   record { sized = record { place = z.place; beside = z.beside; kept = z.kept; held = z.held }; part = tt },
   record { within = omega (arith, (going s.args.t (length s.args.chunk.now) s.pre.1).1); more = λ e. absurd (unknown_ends _ _ _ _ e) },
 )
 
-sub-smaller : tie.Need-sub-smaller
-sub-smaller c = omega (arith, shorter c)
+sub_smaller : tie.Need-overflow_sub-long
+sub_smaller c = omega (arith, shorter c)
 
-sub-smaller-2 : tie.Need-sub-smaller-2
-sub-smaller-2 c = let s = c.before.before.before.before.before.before.before.before in omega (arith, (going s.args.t (length s.args.chunk.now) s.pre.1).1)
+sub_smaller_2 : tie.Need-overflow_sub-chunk
+sub_smaller_2 c = let s = c in omega (arith, (going s.args.t (length s.args.chunk.now) s.pre.1).1)
 
-smaller-requires : tie.Need-smaller-requires
-smaller-requires c κs = search rules
+smaller_requires : tie.Need-smaller-n-requires
+smaller_requires c κs = search rules
 
-add-end : tie.Need-add-end
-add-end c = search rules
+add_end : tie.Need-overflow_add-end
+add_end c = search rules
 
-sub-fill : tie.Need-sub-fill
-sub-fill c = search rules
+sub_fill : tie.Need-slice_bounds-fill-count
+sub_fill c = search rules
 
-part-fill-start : tie.Need-part-fill-start
-part-fill-start c = search rules
+part_fill_start : tie.Need-slice_bounds-fill-start
+part_fill_start c = search rules
 
-part-fill-end : tie.Need-part-fill-end
-part-fill-end c = let h = taken c.before in search rules
+part_fill_end : tie.Need-slice_bounds-fill-end
+part_fill_end c = let h = taken c.before in search rules
 
-fill-requires : tie.Need-fill-requires
-fill-requires c κs = search rules
+fill_requires : tie.Need-fill-requires
+fill_requires c κs = search rules
 
-add-t20 : tie.Need-add-t20
-add-t20 c = search rules
+add_t20 : tie.Need-overflow_add-further
+add_t20 c = search rules
 
-add-if2 : tie.Need-add-if2
-add-if2 c = search rules
+add_if2 : tie.Need-overflow_add-kept
+add_if2 c = search rules
 
-same-length-2 : tie.Need-same-length-2
-same-length-2 c = search rules
+same_length_2 : tie.Need-shape_of-item-then-kept-n
+same_length_2 c = search rules
 
-returns-2 : tie.Need-returns-2
-returns-2 c = let s = c.before.before.before.before.before.before.before.before.before.before.before.before.before.before.before in let z = s.pre.0.sized in let h = taken c.before.before.before.before.before.before in let m = filled c.before.before.before in
-    let room : s.args.t.kept + c.before.before.before.before.before.before.smaller.result ≤ item_room = omega (arith, h.2, c.before.before.before.before.before.before.before.before.length-of.ensures.1) in
-    let less : s.args.t.kept + c.before.before.before.before.before.before.smaller.result < length_of (get_or (take s.args.t.kept s.args.item.now ++ (get_or s.args.chunk.now s.args.t.taken 0 ∷ [])) 0 0) = rw (← long-is c.before.before.before.before.before.before.before.before) c.if2.taken in
-    let first = first_now s.args.t s.args.item.now s.args.file.now s.args.chunk.now s.pre.0 s.pre.1 c.before.before.before.before.before.before.smaller.result h.0 h.1 room in (
-      ap (λ (p : List ℕ). onward (taking Nothing (s.args.t.kept + c.before.before.before.before.before.before.smaller.result) s.args.t.file (s.args.t.taken + c.before.before.before.before.before.before.smaller.result)) p s.args.file.now s.args.chunk.now) m
-          ∙ part_taken s.args.t s.args.item.now s.args.file.now s.args.chunk.now s.pre.0 s.pre.1 c.before.before.before.before.before.before.smaller.result h.0 h.1 room less,
-      record { sized = record { place = c.before.before.item.given ∙ z.place; beside = z.beside; kept = room; held = z.held }; part = inr (rw (m, first) less) },
+returns_2 : tie.Need-returns-then-kept-n
+returns_2 c = let s = c in let z = s.pre.0.sized in let h = taken c.before.before.before.before.before.before in let m = filled c.before.before.before in
+    let room : s.args.t.kept + c.smaller-n.result ≤ item_room = omega (arith, h.2, c.length_of-long.ensures.1) in
+    let less : s.args.t.kept + c.smaller-n.result < length_of (get_or (take s.args.t.kept s.args.item.now ++ (get_or s.args.chunk.now s.args.t.taken 0 ∷ [])) 0 0) = rw (← long_is c.before.before.before.before.before.before.before.before) c.if-kept-n.taken in
+    let first = first_now s.args.t s.args.item.now s.args.file.now s.args.chunk.now s.pre.0 s.pre.1 c.smaller-n.result h.0 h.1 room in (
+      ap (λ (p : List ℕ). onward (taking Nothing (s.args.t.kept + c.smaller-n.result) s.args.t.file (s.args.t.taken + c.smaller-n.result)) p s.args.file.now s.args.chunk.now) m
+          ∙ part_taken s.args.t s.args.item.now s.args.file.now s.args.chunk.now s.pre.0 s.pre.1 c.smaller-n.result h.0 h.1 room less,
+      record { sized = record { place = c.item-1.given ∙ z.place; beside = z.beside; kept = room; held = z.held }; part = inr (rw (m, first) less) },
       record { within = h.1; more = λ e. omega (arith, h.0) },
     )
 
-settle-requires : tie.Need-settle-requires
-settle-requires c κs = search rules
+settle_requires : tie.Need-settle-requires
+settle_requires c κs = search rules
 
-same-length-3 : tie.Need-same-length-3
-same-length-3 c = search rules
+same_length_3 : tie.Need-shape_of-item
+same_length_3 c = search rules
 
-same-length-4 : tie.Need-same-length-4
-same-length-4 c = search rules
+same_length_4 : tie.Need-shape_of-file
+same_length_4 c = search rules
 
-returns-3 : tie.Need-returns-3
-returns-3 c = let s = c.before.before.before.before.before.before.before.before.before.before.before.before.before.before.before.before.before.before.before.before in let z = s.pre.0.sized in let h = taken c.before.before.before.before.before.before.before.before.before.before.before in let m = filled c.before.before.before.before.before.before.before.before in
-    let room : s.args.t.kept + c.before.before.before.before.before.before.before.before.before.before.before.smaller.result ≤ item_room = omega (arith, h.2, c.before.before.before.before.before.before.before.before.before.before.before.before.before.length-of.ensures.1) in
-    let all : s.args.t.kept + c.before.before.before.before.before.before.before.before.before.before.before.smaller.result ≡ length_of (get_or (take s.args.t.kept s.args.item.now ++ (get_or s.args.chunk.now s.args.t.taken 0 ∷ [])) 0 0) = rw (← long-is c.before.before.before.before.before.before.before.before.before.before.before.before.before) (omega (arith, h.2, c.before.before.before.before.before.if2.left)) in
-    let end = c.before.before.settle.ensures.1 in (
-      c.before.before.settle.ensures.0 s.args.chunk.now
-          ∙ ap (λ (p : List ℕ). after_item (meaning (take s.args.t.file s.args.file.now) (take (s.args.t.kept + c.before.before.before.before.before.before.before.before.before.before.before.smaller.result) p)) (s.args.t.taken + c.before.before.before.before.before.before.before.before.before.before.before.smaller.result) s.args.chunk.now) m
-          ∙ whole_taken s.args.t s.args.item.now s.args.file.now s.args.chunk.now s.pre.0 s.pre.1 c.before.before.before.before.before.before.before.before.before.before.before.smaller.result h.0 h.1 room all,
-      c.before.before.settle.ensures.2,
+returns_3 : tie.Need-returns
+returns_3 c = let s = c in let z = s.pre.0.sized in let h = taken c.before.before.before.before.before.before.before.before.before.before in let m = filled c.before.before.before.before.before.before.before in
+    let room : s.args.t.kept + c.smaller-n.result ≤ item_room = omega (arith, h.2, c.length_of-long.ensures.1) in
+    let all : s.args.t.kept + c.smaller-n.result ≡ length_of (get_or (take s.args.t.kept s.args.item.now ++ (get_or s.args.chunk.now s.args.t.taken 0 ∷ [])) 0 0) = rw (← long_is c.before.before.before.before.before.before.before.before.before.before.before.before) (omega (arith, h.2, c.if-kept-n.left)) in
+    let end = c.settle.ensures.1 in (
+      c.settle.ensures.0 s.args.chunk.now
+          ∙ ap (λ (p : List ℕ). after_item (meaning (take s.args.t.file s.args.file.now) (take (s.args.t.kept + c.smaller-n.result) p)) (s.args.t.taken + c.smaller-n.result) s.args.chunk.now) m
+          ∙ whole_taken s.args.t s.args.item.now s.args.file.now s.args.chunk.now s.pre.0 s.pre.1 c.smaller-n.result h.0 h.1 room all,
+      c.settle.ensures.2,
       record { within = omega (arith, h.1, end); more = λ e. omega (arith, h.0, end) },
     )
 
-pub take-item-spec : {M : Type 1} → statement M
-take-item-spec =
+pub take_item_spec : {M : Type 1} → statement M
+take_item_spec =
     tie.close
     (tie.spec
-    shared-slice-read-kind-of
-    kind-of-requires
-    length-of-requires
+    shared_slice_read_kind_of
+    kind_of_requires
+    length_of_requires
     same_length
     returns
-    sub-smaller
-    sub-smaller-2
-    smaller-requires
-    add-end
-    sub-fill
-    part-fill-start
-    part-fill-end
-    fill-requires
-    add-t20
-    add-if2
-    same-length-2
-    returns-2
-    settle-requires
-    same-length-3
-    same-length-4
-    returns-3)
+    sub_smaller
+    sub_smaller_2
+    smaller_requires
+    add_end
+    sub_fill
+    part_fill_start
+    part_fill_end
+    fill_requires
+    add_t20
+    add_if2
+    same_length_2
+    returns_2
+    settle_requires
+    same_length_3
+    same_length_4
+    returns_3)

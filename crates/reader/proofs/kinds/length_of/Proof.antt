@@ -6,27 +6,27 @@ use borrow.Author.Rules.{rules}
 use Rattle.reader.proofs.kinds.length_of.Statement.{statement}
 use Rattle.reader.proofs.kinds.length_of.Tie as tie
 
-of-file-requires : tie.Need-of-file-requires
-of-file-requires c κs = search rules
+of_file_requires : tie.Need-of_file-requires
+of_file_requires c κs = search rules
 
-length-of-requires : tie.Need-length-of-requires
-length-of-requires c κs = search rules
+length_of_requires : tie.Need-length_of-requires
+length_of_requires c κs = search rules
 
-returns : tie.Need-returns
+returns : tie.Need-returns-then-of_file
 unfolding length_of
 returns c =
-    let k = c.before.before.before.args.kind in
-    (rw (sym c.before.before.of-file.ensures ∙ c.before.if1.true) c.length-of.ensures, omega (arith, c.length-of.ensures, file_kind_short k))
+    let k = c.args.kind in
+    (rw (sym c.of_file.ensures ∙ c.if-of_file.true) c.length_of.ensures, omega (arith, c.length_of.ensures, file_kind_short k))
 
-length-of-requires-2 : tie.Need-length-of-requires-2
-length-of-requires-2 c κs = search rules
+length_of_requires_2 : tie.Need-length_of-requires-2
+length_of_requires_2 c κs = search rules
 
-returns-2 : tie.Need-returns-2
+returns_2 : tie.Need-returns
 unfolding length_of
-returns-2 c =
-    let k = c.before.before.before.args.kind in
-    (rw (sym c.before.before.of-file.ensures ∙ c.before.if1.false) c.length-of2.ensures, omega (arith, c.length-of2.ensures, record_kind_short k))
+returns_2 c =
+    let k = c.args.kind in
+    (rw (sym c.of_file.ensures ∙ c.if-of_file.false) c.length_of-2.ensures, omega (arith, c.length_of-2.ensures, record_kind_short k))
 
-pub length-of-spec : {M : Type 1} → statement M
-length-of-spec =
-    tie.close (tie.spec of-file-requires length-of-requires returns length-of-requires-2 returns-2)
+pub length_of_spec : {M : Type 1} → statement M
+length_of_spec =
+    tie.close (tie.spec of_file_requires length_of_requires returns length_of_requires_2 returns_2)

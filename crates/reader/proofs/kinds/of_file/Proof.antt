@@ -6,12 +6,12 @@ use borrow.Author.Rules.{rules}
 use Rattle.reader.proofs.kinds.of_file.Statement.{statement}
 use Rattle.reader.proofs.kinds.of_file.Tie as tie
 
-length-of-requires : tie.Need-length-of-requires
-length-of-requires c κs = search rules
+length_of_requires : tie.Need-length_of-long-requires
+length_of_requires c κs = search rules
 
 returns : tie.Need-returns
 unfolding of_file
-returns c = ap (λ (n : ℕ). ltb 0 n) c.length-of.ensures
+returns c = ap (λ (n : ℕ). ltb 0 n) c.length_of-long.ensures
 
-pub of-file-spec : {M : Type 1} → statement M
-of-file-spec = tie.close (tie.spec length-of-requires returns)
+pub of_file_spec : {M : Type 1} → statement M
+of_file_spec = tie.close (tie.spec length_of_requires returns)
