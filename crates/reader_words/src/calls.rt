@@ -1,4 +1,4 @@
-// The calls of a reader over its words. Crate machhurel exports them as C.
+// The calls of a reader over its words. Crate machhurel_c exports them as C.
 ghost use Rattle.std.specs.Prelude.{◌≡◌, ◌^◌, ◌<◌};
 ghost use Rattle.reader.specs.Held.{handed_to};
 ghost use Rattle.reader_words.specs.Words.{reader_by, call_bits, handed_words, fresh_words, closed_words};
