@@ -1,7 +1,7 @@
 use Rattle.reader.specs.Items.{goes_on}
 use borrow.Author.Rules.{rules}
-use Rattle.reader.proofs.items.goes_on_lem.Statement.{statement}
-use Rattle.reader.proofs.items.goes_on_lem.Tie as tie
+use Rattle.reader.proofs.items.goes_on.Statement.{statement}
+use Rattle.reader.proofs.items.goes_on.Tie as tie
 
 enum_told : tie.Need-enum_told-1
 enum_told c = search rules

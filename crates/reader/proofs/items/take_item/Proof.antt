@@ -24,7 +24,7 @@ shorter : (c : tie.Else-long-eq0) → c.args.t.kept < c.length_of-long.result
 shorter c =
     let s = c in
     rw (long_is c.before)
-    (below s.args.t s.args.item.now s.args.file.now s.args.chunk.now s.pre.0 s.pre.1 (λ e. c.if-long-eq0.left (long_is c.before ∙ e)))
+    (below s.args.t s.args.item.now s.args.file.now s.args.chunk.now s.requires.0 s.requires.1 (λ e. c.if-long-eq0.false (long_is c.before ∙ e)))
 
 -- how many bytes are taken
 taken : (c : tie.After-smaller-n) → let s = c in let n = c.smaller-n.result in
@@ -32,11 +32,11 @@ taken : (c : tie.After-smaller-n) → let s = c in let n = c.smaller-n.result in
 taken c =
     let s = c in
     some_taken c.length_of-long.result s.args.t.kept s.args.t.taken (length s.args.chunk.now) c.smaller-n.result c.smaller-n.ensures (shorter c.before)
-    (going s.args.t (length s.args.chunk.now) s.pre.1).1
+    (going s.args.t (length s.args.chunk.now) s.requires.1).1
 
 -- where they are laid
 filled : (c : tie.After-fill) → let s = c in
-    c.fill.last.0 ≡ splice s.args.item.now s.args.t.kept (take c.smaller-n.result (drop s.args.t.taken s.args.chunk.now))
+    c.fill.new.place ≡ splice s.args.item.now s.args.t.kept (take c.smaller-n.result (drop s.args.t.taken s.args.chunk.now))
 filled c =
     let s = c in
     let n = c.smaller-n.result in
@@ -44,7 +44,7 @@ filled c =
     c.fill.ensures ∙ ap (λ (m : ℕ). splice s.args.item.now s.args.t.kept (take m (drop s.args.t.taken s.args.chunk.now))) e
 
 shared_slice_read_kind_of : tie.Need-bounds-chunk-at
-shared_slice_read_kind_of c = let s = c in (going s.args.t (length s.args.chunk.now) s.pre.1).1
+shared_slice_read_kind_of c = let s = c in (going s.args.t (length s.args.chunk.now) s.requires.1).1
 
 kind_of_requires : tie.Need-kind_of-requires
 kind_of_requires c κs = search rules
@@ -56,17 +56,17 @@ same_length : tie.Need-shape_of-item-then-long-eq0
 same_length c = search rules
 
 returns : tie.Need-returns-then-long-eq0
-returns c = let s = c in let z = s.pre.0.sized in (
-  unknown_here s.args.t s.args.item.now s.args.file.now s.args.chunk.now s.pre.0 s.pre.1 (sym (long_is c.before) ∙ c.if-long-eq0.taken),
+returns c = let s = c in let z = s.requires.0.sized in (
+  unknown_here s.args.t s.args.item.now s.args.file.now s.args.chunk.now s.requires.0 s.requires.1 (sym (long_is c.before) ∙ c.if-long-eq0.true),
   record { sized = record { place = z.place; beside = z.beside; kept = z.kept; held = z.held }; part = tt },
-  record { within = omega (arith, (going s.args.t (length s.args.chunk.now) s.pre.1).1); more = λ e. absurd (unknown_ends _ _ _ _ e) },
+  record { within = omega (arith, (going s.args.t (length s.args.chunk.now) s.requires.1).1); more = λ e. absurd (unknown_ends _ _ _ _ e) },
 )
 
 sub_smaller : tie.Need-overflow_sub-long
 sub_smaller c = omega (arith, shorter c)
 
 sub_smaller_2 : tie.Need-overflow_sub-chunk
-sub_smaller_2 c = let s = c in omega (arith, (going s.args.t (length s.args.chunk.now) s.pre.1).1)
+sub_smaller_2 c = let s = c in omega (arith, (going s.args.t (length s.args.chunk.now) s.requires.1).1)
 
 smaller_requires : tie.Need-smaller-n-requires
 smaller_requires c κs = search rules
@@ -96,12 +96,12 @@ same_length_2 : tie.Need-shape_of-item-then-kept-n
 same_length_2 c = search rules
 
 returns_2 : tie.Need-returns-then-kept-n
-returns_2 c = let s = c in let z = s.pre.0.sized in let h = taken c.before.before.before.before.before.before in let m = filled c.before.before.before in
+returns_2 c = let s = c in let z = s.requires.0.sized in let h = taken c.before.before.before.before.before.before in let m = filled c.before.before.before in
     let room : s.args.t.kept + c.smaller-n.result ≤ item_room = omega (arith, h.2, c.length_of-long.ensures.1) in
-    let less : s.args.t.kept + c.smaller-n.result < length_of (get_or (take s.args.t.kept s.args.item.now ++ (get_or s.args.chunk.now s.args.t.taken 0 ∷ [])) 0 0) = rw (← long_is c.before.before.before.before.before.before.before.before) c.if-kept-n.taken in
-    let first = first_now s.args.t s.args.item.now s.args.file.now s.args.chunk.now s.pre.0 s.pre.1 c.smaller-n.result h.0 h.1 room in (
+    let less : s.args.t.kept + c.smaller-n.result < length_of (get_or (take s.args.t.kept s.args.item.now ++ (get_or s.args.chunk.now s.args.t.taken 0 ∷ [])) 0 0) = rw (← long_is c.before.before.before.before.before.before.before.before) c.if-kept-n.true in
+    let first = first_now s.args.t s.args.item.now s.args.file.now s.args.chunk.now s.requires.0 s.requires.1 c.smaller-n.result h.0 h.1 room in (
       ap (λ (p : List ℕ). onward (taking Nothing (s.args.t.kept + c.smaller-n.result) s.args.t.file (s.args.t.taken + c.smaller-n.result)) p s.args.file.now s.args.chunk.now) m
-          ∙ part_taken s.args.t s.args.item.now s.args.file.now s.args.chunk.now s.pre.0 s.pre.1 c.smaller-n.result h.0 h.1 room less,
+          ∙ part_taken s.args.t s.args.item.now s.args.file.now s.args.chunk.now s.requires.0 s.requires.1 c.smaller-n.result h.0 h.1 room less,
       record { sized = record { place = c.item-1.given ∙ z.place; beside = z.beside; kept = room; held = z.held }; part = inr (rw (m, first) less) },
       record { within = h.1; more = λ e. omega (arith, h.0) },
     )
@@ -116,13 +116,13 @@ same_length_4 : tie.Need-shape_of-file
 same_length_4 c = search rules
 
 returns_3 : tie.Need-returns
-returns_3 c = let s = c in let z = s.pre.0.sized in let h = taken c.before.before.before.before.before.before.before.before.before.before in let m = filled c.before.before.before.before.before.before.before in
+returns_3 c = let s = c in let z = s.requires.0.sized in let h = taken c.before.before.before.before.before.before.before.before.before.before in let m = filled c.before.before.before.before.before.before.before in
     let room : s.args.t.kept + c.smaller-n.result ≤ item_room = omega (arith, h.2, c.length_of-long.ensures.1) in
-    let all : s.args.t.kept + c.smaller-n.result ≡ length_of (get_or (take s.args.t.kept s.args.item.now ++ (get_or s.args.chunk.now s.args.t.taken 0 ∷ [])) 0 0) = rw (← long_is c.before.before.before.before.before.before.before.before.before.before.before.before) (omega (arith, h.2, c.if-kept-n.left)) in
+    let all : s.args.t.kept + c.smaller-n.result ≡ length_of (get_or (take s.args.t.kept s.args.item.now ++ (get_or s.args.chunk.now s.args.t.taken 0 ∷ [])) 0 0) = rw (← long_is c.before.before.before.before.before.before.before.before.before.before.before.before) (omega (arith, h.2, c.if-kept-n.false)) in
     let end = c.settle.ensures.1 in (
       c.settle.ensures.0 s.args.chunk.now
           ∙ ap (λ (p : List ℕ). after_item (meaning (take s.args.t.file s.args.file.now) (take (s.args.t.kept + c.smaller-n.result) p)) (s.args.t.taken + c.smaller-n.result) s.args.chunk.now) m
-          ∙ whole_taken s.args.t s.args.item.now s.args.file.now s.args.chunk.now s.pre.0 s.pre.1 c.smaller-n.result h.0 h.1 room all,
+          ∙ whole_taken s.args.t s.args.item.now s.args.file.now s.args.chunk.now s.requires.0 s.requires.1 c.smaller-n.result h.0 h.1 room all,
       c.settle.ensures.2,
       record { within = omega (arith, h.1, end); more = λ e. omega (arith, h.0, end) },
     )
