@@ -7,7 +7,9 @@ pub fn put(out: &mut [u8], t: &[u8]) -> usize
     requires { size word_bytes (letters t.now ∷ []) ≤ length out.old }
     ensures { Logged word_bytes (letters t.now ∷ []) out.old out.new result }
 {
-    bytes::copy(t, out)
+    let n = t.len();
+    out[..n].copy_from_slice(t);
+    n
 }
 
 pub fn put_decimal(out: &mut [u8], n: u64) -> usize

@@ -1,10 +1,9 @@
-// The C interface of a block of records: one register file, one log buffer and one answer buffer.
+// The call on a block of records: one register file, one log buffer and one answer buffer.
 ghost use Rattle.std.specs.Prelude.{◌≡◌};
 ghost use Rattle.block.specs.Blocks.{block_call};
 ghost use Rattle.block.specs.Bits.{in_bits};
 
-#[unsafe(no_mangle)]
-pub extern "C" fn machhurel_block(
+pub fn machhurel_block(
     records: &[u8],
     each: usize,
     file: &[u8],

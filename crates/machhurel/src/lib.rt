@@ -1,13 +1,14 @@
 // What users call: every call takes bytes and answers one number, whose bits crate answers names. No call requires anything.
+// Crate machhurel_c exports each as C.
 #![tactic(auto)]
 
 mod blocks; // blocks.rt: the call on a block of records
-mod calls; // calls.rt: the calls on a record and on a log, exported as C
+mod calls; // calls.rt: the calls on a record and on a log
 mod fetches; // fetches.rt: the calls on a set of registers for a list of records
-mod readers; // readers.rt: the calls on a reader of a stream, whose words a C caller keeps
-mod sessions; // sessions.rt: the calls on a log session, whose words a C caller keeps
-mod sheets; // sheets.rt: the calls on a sheet, whose words a C caller keeps
-mod watches; // watches.rt: the calls on a watch, whose words a C caller keeps
+mod readers; // readers.rt: the calls on a reader of a stream, whose words the caller keeps
+mod sessions; // sessions.rt: the calls on a log session, whose words the caller keeps
+mod sheets; // sheets.rt: the calls on a sheet, whose words the caller keeps
+mod watches; // watches.rt: the calls on a watch, whose words the caller keeps
 
 pub use blocks::machhurel_block;
 pub use calls::{

@@ -1,17 +1,15 @@
-// The C interface of a reader of a stream: a C caller keeps it as 48 words. Any words at all get an answer.
+// The calls on a reader of a stream, which is kept as 48 words. Any words at all get an answer.
 ghost use Rattle.std.specs.Prelude.{◌≡◌};
 ghost use Rattle.reader.specs.Held.{handed_to};
 ghost use Rattle.reader_words.specs.Words.{reader_by, handed_words, fresh_words, closed_words};
 
-#[unsafe(no_mangle)]
-pub extern "C" fn machhurel_reader_new(reader: &mut [u64; 48]) -> u64
+pub fn machhurel_reader_new(reader: &mut [u64; 48]) -> u64
     ensures { (result, reader.new) ≡ fresh_words }
 {
     reader_words::new_words(reader)
 }
 
-#[unsafe(no_mangle)]
-pub extern "C" fn machhurel_reader_read(
+pub fn machhurel_reader_read(
     reader: &mut [u64; 48],
     chunk: &[u8],
     log: &mut [u8],
@@ -24,8 +22,7 @@ pub extern "C" fn machhurel_reader_read(
     reader_words::read_words(reader, chunk, log, start, taken)
 }
 
-#[unsafe(no_mangle)]
-pub extern "C" fn machhurel_reader_close(reader: &mut [u64; 48]) -> u64
+pub fn machhurel_reader_close(reader: &mut [u64; 48]) -> u64
     ensures { (result, reader.new) ≡ closed_words (reader_by reader.old) }
 {
     reader_words::close_words(reader)

@@ -12,22 +12,25 @@ mod files;
 mod print;
 mod tally;
 
-ghost use Rattle.std.specs.Prelude.{◌≡◌, length};
+ghost use Rattle.std.specs.Prelude.{◌≡◌, ◌≤◌, IfOk, length};
+
+use std::fs::File;
+use std::io;
+use std::io::Read;
 
 // "MACHLIST", lowest byte first.
 const MARK: u64 = 0x5453_494C_4843_414D;
 
-fn main() {
-    let path = b"answers.list";
-    let fd = os::open_read(path);
-    if fd < 0 {
-        os::fail(path);
-        return;
+fn main(rt: HostRuntime) -> io::Result<()> {
+    let path = "answers.list";
+    match File::open(&rt, path) {
+        Ok(mut file) => {
+            let mut bytes = room_for_list();
+            let n = read_list(&mut file, &mut bytes)?;
+            replay(&rt, &bytes[..n])
+        }
+        Err(error) => eprintln!(rt; "{path}: {error}"),
     }
-    let mut bytes = room_for_list();
-    let n = io::read_full(fd, &mut bytes);
-    libc::close(fd);
-    replay(&bytes[..n]);
 }
 
 // The program that makes the list holds it to 600,000 bytes. The `ensures` spares `main` a look at each of them.
@@ -37,17 +40,30 @@ fn room_for_list() -> [u8; 600000]
     [0; 600000]
 }
 
-fn replay(list: &[u8]) {
+// Reads until the file ends or the room is full, and answers how many bytes stand at its front.
+fn read_list(file: &mut File, room: &mut [u8]) -> io::Result<usize>
+    ensures { IfOk result (λ n. n ≤ length room.new) }
+{
+    let mut done = 0;
+    while done < room.len() {
+        let n = file.read(&mut room[done..])?;
+        if n == 0 {
+            break;
+        }
+        done += n;
+    }
+    Ok(done)
+}
+
+fn replay(rt: &impl Print, list: &[u8]) -> io::Result<()> {
     if list.len() < 16 {
-        print::no_list();
-        return;
+        return print::no_list(rt);
     }
     if laws::u64_at(list, 0) != MARK {
-        print::no_list();
-        return;
+        return print::no_list(rt);
     }
     let files = laws::u32_at(list, 8);
     let cases = laws::u32_at(list, 12);
-    let seen = tally::replay_all(list, files::behind(list, files), cases);
-    print::tally(seen, cases, list.len());
+    let seen = tally::replay_all(rt, list, files::behind(list, files), cases)?;
+    print::tally(rt, seen, cases, list.len())
 }

@@ -1,61 +1,50 @@
 // What the program writes.
 use crate::tally::Tally;
-use libc::STDOUT_FILENO;
+use std::io;
 
-pub(crate) fn no_list() {
-    write(b"not a list of answers\n");
+pub(crate) fn no_list(rt: &impl Print) -> io::Result<()> {
+    println!(rt; "not a list of answers")
 }
 
-pub(crate) fn difference(number: u32, call: usize) {
-    count(b"the first difference: case ", number as u64, b", ");
-    name(call);
-    write(b"\n");
+pub(crate) fn difference(rt: &impl Print, number: u32, call: usize) -> io::Result<()> {
+    let name = name(call);
+    println!(rt; "the first difference: case {number}, {name}")
 }
 
-pub(crate) fn tally(seen: Tally, cases: u32, end: usize) {
+pub(crate) fn tally(rt: &impl Print, seen: Tally, cases: u32, end: usize) -> io::Result<()> {
     let calls = seen.calls;
-    line(1, calls[1]);
-    line(2, calls[2]);
-    line(3, calls[3]);
-    line(4, calls[4]);
-    line(5, calls[5]);
-    line(6, calls[6]);
-    ending(seen.at, end);
-    count(b"", cases as u64, b" cases, ");
-    count(b"", seen.differences, b" differences\n");
+    line(rt, 1, calls[1])?;
+    line(rt, 2, calls[2])?;
+    line(rt, 3, calls[3])?;
+    line(rt, 4, calls[4])?;
+    line(rt, 5, calls[5])?;
+    line(rt, 6, calls[6])?;
+    ending(rt, seen.at, end)?;
+    let differences = seen.differences;
+    println!(rt; "{cases} cases, {differences} differences")
 }
 
-fn line(call: usize, n: u64) {
-    name(call);
-    count(b" ", n, b"\n");
+fn line(rt: &impl Print, call: usize, n: u64) -> io::Result<()> {
+    let name = name(call);
+    println!(rt; "{name} {n}")
 }
 
 // A list that the cases do not fill is no list.
-fn ending(at: usize, end: usize) {
+fn ending(rt: &impl Print, at: usize, end: usize) -> io::Result<()> {
     if at != end {
-        count(b"the cases end at byte ", at as u64, b"");
-        count(b" of ", end as u64, b"\n");
+        println!(rt; "the cases end at byte {at} of {end}")?;
     }
+    Ok(())
 }
 
-fn count(before: &[u8], n: u64, behind: &[u8]) {
-    write(before);
-    io::print_decimal(STDOUT_FILENO, n);
-    write(behind);
-}
-
-fn name(call: usize) {
+fn name(call: usize) -> &'static str {
     match call {
-        1 => write(b"visit"),
-        2 => write(b"listing"),
-        3 => write(b"digest"),
-        4 => write(b"privilege"),
-        5 => write(b"exceptions"),
-        6 => write(b"event"),
-        _ => write(b"no call"),
+        1 => "visit",
+        2 => "listing",
+        3 => "digest",
+        4 => "privilege",
+        5 => "exceptions",
+        6 => "event",
+        _ => "no call",
     }
-}
-
-fn write(bytes: &[u8]) {
-    io::write_all(STDOUT_FILENO, bytes);
 }

@@ -2,6 +2,7 @@
 ghost use Rattle.std.specs.Prelude.{◌<◌};
 
 use crate::cases::{Found, case_at, holds};
+use std::io;
 
 // The place of the next case; how many cases each call had, at its number (0: no call); how many differ.
 #[derive(Clone, Copy)]
@@ -16,21 +17,26 @@ impl Tally {
         requires { call < 7 }
     {
         self.at = next;
-        self.calls[call] = std::num::wrapping_add_u64(self.calls[call], 1);
+        self.calls[call] = self.calls[call].wrapping_add(1);
         self
     }
 
     // The first difference is printed as it is met.
-    fn differing(mut self, number: u32, call: usize) -> Self {
+    fn differing(mut self, rt: &impl Print, number: u32, call: usize) -> io::Result<Self> {
         if self.differences == 0 {
-            crate::print::difference(number, call);
+            crate::print::difference(rt, number, call)?;
         }
-        self.differences = std::num::wrapping_add_u64(self.differences, 1);
-        self
+        self.differences = self.differences.wrapping_add(1);
+        Ok(self)
     }
 }
 
-pub(crate) fn replay_all(list: &[u8], first: usize, cases: u32) -> Tally {
+pub(crate) fn replay_all(
+    rt: &impl Print,
+    list: &[u8],
+    first: usize,
+    cases: u32,
+) -> io::Result<Tally> {
     let calls = [0; 7];
     let mut seen = Tally {
         at: first,
@@ -39,25 +45,25 @@ pub(crate) fn replay_all(list: &[u8], first: usize, cases: u32) -> Tally {
     };
     let mut number = 0;
     while number < cases {
-        seen = replay_one(list, seen, number);
+        seen = replay_one(rt, list, seen, number)?;
         number += 1;
     }
-    seen
+    Ok(seen)
 }
 
 // A case that the list breaks off in differs, and so do all that should follow it.
-fn replay_one(list: &[u8], seen: Tally, number: u32) -> Tally {
+fn replay_one(rt: &impl Print, list: &[u8], seen: Tally, number: u32) -> io::Result<Tally> {
     let at = seen.at;
     let Found::One(c) = case_at(list, at) else {
-        return seen.differing(number, 0);
+        return seen.differing(rt, number, 0);
     };
     let head = c.head;
     let call = known(head.call);
     let after = seen.passed(call, c.next);
     if holds(list, c) {
-        return after;
+        return Ok(after);
     }
-    after.differing(number, call)
+    after.differing(rt, number, call)
 }
 
 fn known(call: u8) -> usize
