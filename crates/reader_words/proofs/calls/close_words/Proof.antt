@@ -8,56 +8,56 @@ use borrow.Author.Rules.{rules}
 use Rattle.reader_words.proofs.calls.close_words.Statement.{statement}
 use Rattle.reader_words.proofs.calls.close_words.Tie as tie
 
-slice-aggregate-unpack : tie.Need-slice-aggregate-unpack
-slice-aggregate-unpack c = search rules
+slice_aggregate_unpack : tie.Need-slice_bounds-unpack-end
+slice_aggregate_unpack c = search rules
 
-unpack-requires : tie.Need-unpack-requires
-unpack-requires c κs = search rules
+unpack_requires : tie.Need-unpack-requires
+unpack_requires c κs = search rules
 
-slice-aggregate-unpack-2 : tie.Need-slice-aggregate-unpack-2
-slice-aggregate-unpack-2 c = search rules
+slice_aggregate_unpack_2 : tie.Need-slice_bounds-unpack-end-2
+slice_aggregate_unpack_2 c = search rules
 
-unpack-requires-2 : tie.Need-unpack-requires-2
-unpack-requires-2 c κs = search rules
+unpack_requires_2 : tie.Need-unpack-requires-2
+unpack_requires_2 c κs = search rules
 
-slice-aggregate-reader-in : tie.Need-slice-aggregate-reader-in
-slice-aggregate-reader-in c = search rules
+slice_aggregate_reader_in : tie.Need-slice_bounds-reader_in-end
+slice_aggregate_reader_in c = search rules
 
-slice-aggregate-reader-in-2 : tie.Need-slice-aggregate-reader-in-2
-slice-aggregate-reader-in-2 c = search rules
+slice_aggregate_reader_in_2 : tie.Need-slice_bounds-reader_in-end-2
+slice_aggregate_reader_in_2 c = search rules
 
-reader-in-requires : tie.Need-reader-in-requires
-reader-in-requires c κs = search rules
+reader_in_requires : tie.Need-reader_in-held-requires
+reader_in_requires c κs = search rules
 
-slice-aggregate-close-reader : tie.Need-slice-aggregate-close-reader
-slice-aggregate-close-reader c = search rules
+slice_aggregate_close_reader : tie.Need-slice_bounds-close_reader-end
+slice_aggregate_close_reader c = search rules
 
-slice-aggregate-close-reader-2 : tie.Need-slice-aggregate-close-reader-2
-slice-aggregate-close-reader-2 c = search rules
+slice_aggregate_close_reader_2 : tie.Need-slice_bounds-close_reader-end-2
+slice_aggregate_close_reader_2 c = search rules
 
-close-reader-requires : tie.Need-close-reader-requires
-close-reader-requires c κs = search rules
+close_reader_requires : tie.Need-close_reader-number-requires
+close_reader_requires c κs = search rules
 
-cast-result : tie.Need-overflow-cast-result
-cast-result c = search rules
+cast_result : tie.Need-overflow_cast-result
+cast_result c = search rules
 
 returns : tie.Need-returns
 unfolding close
-returns c = ap₂ (λ (k : ℕ) (w : List ℕ). (k, w)) (c.before.close-reader.ensures ∙ ap (λ (x : StreamReader). closing_of x) c.before.before.before.before.reader-in.ensures) fresh_words_lem
+returns c = ap₂ (λ (k : ℕ) (w : List ℕ). (k, w)) (c.close_reader-number.ensures ∙ ap (λ (x : StreamReader). closing_of x) c.reader_in-held.ensures) fresh_words_lem
 
-pub close-words-spec : {M : Type 1} → statement M
-close-words-spec =
+pub close_words_spec : {M : Type 1} → statement M
+close_words_spec =
     tie.close
     (tie.spec
-    slice-aggregate-unpack
-    unpack-requires
-    slice-aggregate-unpack-2
-    unpack-requires-2
-    slice-aggregate-reader-in
-    slice-aggregate-reader-in-2
-    reader-in-requires
-    slice-aggregate-close-reader
-    slice-aggregate-close-reader-2
-    close-reader-requires
-    cast-result
+    slice_aggregate_unpack
+    unpack_requires
+    slice_aggregate_unpack_2
+    unpack_requires_2
+    slice_aggregate_reader_in
+    slice_aggregate_reader_in_2
+    reader_in_requires
+    slice_aggregate_close_reader
+    slice_aggregate_close_reader_2
+    close_reader_requires
+    cast_result
     returns)

@@ -8,5 +8,5 @@ use Rattle.reader_words.proofs.calls.new_words.Tie as tie
 returns : tie.Need-returns
 returns c = ap (λ (w : List ℕ). (0, w)) fresh_words_lem
 
-pub new-words-spec : {M : Type 1} → statement M
-new-words-spec = tie.close (tie.spec returns)
+pub new_words_spec : {M : Type 1} → statement M
+new_words_spec = tie.close (tie.spec returns)

@@ -12,31 +12,31 @@ use borrow.Author.Rules.{rules}
 use Rattle.reader_words.proofs.places.pack_front.Statement.{statement}
 use Rattle.reader_words.proofs.places.pack_front.Tie as tie
 
-slice-aggregate-fill : tie.Need-slice-aggregate-fill
-slice-aggregate-fill c = search rules
+slice_aggregate_fill : tie.Need-slice_bounds-fill-end
+slice_aggregate_fill c = search rules
 
-slice-aggregate-fill-2 : tie.Need-slice-aggregate-fill-2
-slice-aggregate-fill-2 c = let s = c.before.before.before in sym (length-take-le s.args.n s.args.bytes.now s.requires.2)
+slice_aggregate_fill_2 : tie.Need-slice_bounds-fill-end-2
+slice_aggregate_fill_2 c = let s = c in sym (length-take-le s.args.n s.args.bytes.now s.requires.2)
 
-fill-requires : tie.Need-fill-requires
-fill-requires c κs = let s = c.before.before.before in omega (arith, length-take s.args.n s.args.bytes.now, s.requires.1)
+fill_requires : tie.Need-fill-requires
+fill_requires c κs = let s = c in omega (arith, length-take s.args.n s.args.bytes.now, s.requires.1)
 
-slice-aggregate-pack : tie.Need-slice-aggregate-pack
-slice-aggregate-pack c = search rules
+slice_aggregate_pack : tie.Need-slice_bounds-pack-end
+slice_aggregate_pack c = search rules
 
-pack-requires : tie.Need-pack-requires
-pack-requires c κs = search rules
+pack_requires : tie.Need-pack-requires
+pack_requires c κs = search rules
 
 returns : tie.Need-returns
-returns c = let s = c.before.before.before.before.before.before.before.before in c.pack.ensures ∙ ap (λ (l : List ℕ). sets s.args.words.now s.args.from l) (ap words_in c.before.before.before.before.fill.ensures ∙ padded item_room (take s.args.n s.args.bytes.now))
+returns c = let s = c in c.pack.ensures ∙ ap (λ (l : List ℕ). sets s.args.words.now s.args.from l) (ap words_in c.fill.ensures ∙ padded item_room (take s.args.n s.args.bytes.now))
 
-pub pack-front-spec : {M : Type 1} → statement M
-pack-front-spec =
+pub pack_front_spec : {M : Type 1} → statement M
+pack_front_spec =
     tie.close
     (tie.spec
-    slice-aggregate-fill
-    slice-aggregate-fill-2
-    fill-requires
-    slice-aggregate-pack
-    pack-requires
+    slice_aggregate_fill
+    slice_aggregate_fill_2
+    fill_requires
+    slice_aggregate_pack
+    pack_requires
     returns)

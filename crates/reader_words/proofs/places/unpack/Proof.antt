@@ -9,73 +9,73 @@ use Rattle.reader_words.proofs.Packing.{Laid, none_laid, one_laid, laid_long, al
 use Rattle.reader_words.proofs.places.unpack.Statement.{statement}
 use Rattle.reader_words.proofs.places.unpack.Tie as tie
 
-abbrev invariant-loop : tie.invariant-loop
+abbrev invariant-loop : tie.invariant-loop-i
 invariant-loop words from out₀ i₀ out i = (i ≤ place_words) × (length out ≡ length out₀) × Laid words from out₀ out i
 
-abbrev decreases-loop : tie.decreases-loop
+abbrev decreases-loop : tie.decreases-loop-i
 decreases-loop words from out₀ i₀ out i = place_words - i
 
-loop-holds : tie.Need-loop-init invariant-loop decreases-loop
-loop-holds c = (zero-le, refl, none_laid c.before.args.words.now c.before.args.from c.before.args.out.now)
+loop_holds : tie.Need-loop-i-init invariant-loop decreases-loop
+loop_holds c = (zero-le, refl, none_laid c.args.words.now c.args.from c.args.out.now)
 
-mul_at : tie.Need-overflow-mul-at invariant-loop decreases-loop
+mul_at : tie.Need-overflow_mul-at invariant-loop decreases-loop
 mul_at c = search rules
 
-sub-put-u64 : tie.Need-overflow-sub-put-u64 invariant-loop decreases-loop
-sub-put-u64 c = search rules
+sub_put_u64 : tie.Need-slice_bounds-put_u64-count invariant-loop decreases-loop
+sub_put_u64 c = search rules
 
-part-put-u64-start : tie.Need-slice-bounds-put-u64-start invariant-loop decreases-loop
-part-put-u64-start c = search rules
+part_put_u64_start : tie.Need-slice_bounds-put_u64-start invariant-loop decreases-loop
+part_put_u64_start c = search rules
 
-part-put-u64-end : tie.Need-slice-bounds-put-u64-end invariant-loop decreases-loop
-part-put-u64-end c = search rules
+part_put_u64_end : tie.Need-slice_bounds-put_u64-end invariant-loop decreases-loop
+part_put_u64_end c = search rules
 
-add-put-u64 : tie.Need-overflow-add-put-u64 invariant-loop decreases-loop
-add-put-u64 c = search rules
+add_put_u64 : tie.Need-overflow_add-from invariant-loop decreases-loop
+add_put_u64 c = search rules
 
-mul-put-u64 : tie.Need-overflow-mul-put-u64 invariant-loop decreases-loop
-mul-put-u64 c = search rules
+mul_put_u64 : tie.Need-offset_bounds-words-from invariant-loop decreases-loop
+mul_put_u64 c = search rules
 
-element-copy-out-put-u64 : tie.Need-element-copy-out-put-u64 invariant-loop decreases-loop
-element-copy-out-put-u64 c = search rules
+element_copy_out_put_u64 : tie.Need-bounds-words-from invariant-loop decreases-loop
+element_copy_out_put_u64 c = search rules
 
-put-u64-requires : tie.Need-put-u64-requires invariant-loop decreases-loop
-put-u64-requires c κs = let l = c.before.before.before.loop in omega (arith, part_length l.out (8 * l.i))
+put_u64_requires : tie.Need-put_u64-requires invariant-loop decreases-loop
+put_u64_requires c κs = let l = c.loop-i in omega (arith, part_length l.out (8 * l.i))
 
-add-i : tie.Need-overflow-add-i invariant-loop decreases-loop
-add-i c = search rules
+add_i : tie.Need-overflow_add-i invariant-loop decreases-loop
+add_i c = search rules
 
-loop-less : tie.Need-loop-smaller invariant-loop decreases-loop
-loop-less c = omega arith
+loop_less : tie.Need-loop-i-smaller invariant-loop decreases-loop
+loop_less c = omega arith
 
-loop-again : tie.Need-loop-preserved invariant-loop decreases-loop
-loop-again c = let l = c.before.before.before.before.before.before.loop in let s = c.before.before.before.before.before.before.before.before in
-    let next = one_laid s.args.words.now s.args.from s.args.out.now l.out c.before.before.put-u64.new.0 l.i l.invariant.2 c.before.before.put-u64.ensures in
+loop_again : tie.Need-loop-i-preserved invariant-loop decreases-loop
+loop_again c = let l = c.loop-i in let s = c in
+    let next = one_laid s.args.words.now s.args.from s.args.out.now l.out c.put_u64.new.out l.i l.invariant.2 c.put_u64.ensures in
     (omega arith, laid_long s.args.words.now s.args.from s.args.out.now _ (l.i + 1) (omega (arith, s.requires.1)) next, next)
 
-same_length : tie.Need-same-length invariant-loop decreases-loop
-same_length c = c.before.loop.invariant.1
+same_length : tie.Need-shape_of-out invariant-loop decreases-loop
+same_length c = c.loop-i.invariant.1
 
 returns : tie.Need-returns invariant-loop decreases-loop
-returns c = let l = c.before.loop in let s = c.before.before.before in all_laid s.args.words.now s.args.from s.args.out.now l.out l.i (omega arith) (omega (arith, s.requires.1)) l.invariant.2
+returns c = let l = c.loop-i in let s = c in all_laid s.args.words.now s.args.from s.args.out.now l.out l.i (omega arith) (omega (arith, s.requires.1)) l.invariant.2
 
-pub unpack-spec : {M : Type 1} → statement M
-unpack-spec =
+pub unpack_spec : {M : Type 1} → statement M
+unpack_spec =
     tie.close
     (tie.spec
     invariant-loop
     decreases-loop
-    loop-holds
+    loop_holds
     mul_at
-    sub-put-u64
-    part-put-u64-start
-    part-put-u64-end
-    add-put-u64
-    mul-put-u64
-    element-copy-out-put-u64
-    put-u64-requires
-    add-i
-    loop-less
-    loop-again
+    sub_put_u64
+    part_put_u64_start
+    part_put_u64_end
+    add_put_u64
+    mul_put_u64
+    element_copy_out_put_u64
+    put_u64_requires
+    add_i
+    loop_less
+    loop_again
     same_length
     returns)

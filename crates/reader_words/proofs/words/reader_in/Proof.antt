@@ -4,39 +4,39 @@ use borrow.Author.Rules.{rules}
 use Rattle.reader_words.proofs.words.reader_in.Statement.{statement}
 use Rattle.reader_words.proofs.words.reader_in.Tie as tie
 
-element-copy-out-t9 : tie.Need-element-copy-out-t9
-element-copy-out-t9 c = search rules
+element_copy_out_t9 : tie.Need-bounds-words-40
+element_copy_out_t9 c = search rules
 
-element-copy-out-t13 : tie.Need-element-copy-out-t13
-element-copy-out-t13 c = search rules
+element_copy_out_t13 : tie.Need-bounds-words-41
+element_copy_out_t13 c = search rules
 
-element-copy-out-t17 : tie.Need-element-copy-out-t17
-element-copy-out-t17 c = search rules
+element_copy_out_t17 : tie.Need-bounds-words-42
+element_copy_out_t17 c = search rules
 
-checked-requires : tie.Need-checked-requires
-checked-requires c κs = search rules
+checked_requires : tie.Need-checked-r-requires
+checked_requires c κs = search rules
 
-words-of-requires : tie.Need-words-of-requires
-words-of-requires c κs = let s = c.before.before.before.before.before.before in placed s.args.words.now s.args.item.now s.args.file.now s.requires.0 s.requires.1 c.checked.result c.checked.ensures.0 c.checked.ensures.1
+words_of_requires : tie.Need-words_of-again-requires
+words_of_requires c κs = let s = c in placed s.args.words.now s.args.item.now s.args.file.now s.requires.0 s.requires.1 c.checked-r.result c.checked-r.ensures.0 c.checked-r.ensures.1
 
-same-words-requires : tie.Need-same-words-requires
-same-words-requires c κs = search rules
+same_words_requires : tie.Need-same_words-requires
+same_words_requires c κs = search rules
 
-returns : tie.Need-returns
-returns c = let s = c.before.before.before.before.before.before.before.before.before.before in let e = c.before.before.before.before.checked.ensures in held_by s.args.words.now s.args.item.now s.args.file.now s.requires.0 s.requires.1 c.before.before.before.before.checked.result e.0 e.1 c.before.before.before.words_of.result c.before.before.before.words_of.ensures (sym c.before.same-words.ensures ∙ c.if1.true)
+returns : tie.Need-returns-then-same_words
+returns c = let s = c in let e = c.checked-r.ensures in held_by s.args.words.now s.args.item.now s.args.file.now s.requires.0 s.requires.1 c.checked-r.result e.0 e.1 c.words_of-again.result c.words_of-again.ensures (sym c.same_words.ensures ∙ c.if-same_words.true)
 
-returns-2 : tie.Need-returns-2
-returns-2 c = let s = c.before.before.before.before.before.before.before.before.before.before in let e = c.before.before.before.before.checked.ensures in held_by_none s.args.words.now s.args.item.now s.args.file.now s.requires.0 s.requires.1 c.before.before.before.before.checked.result e.0 e.1 c.before.before.before.words_of.result c.before.before.before.words_of.ensures (sym c.before.same-words.ensures ∙ c.if1.false)
+returns_2 : tie.Need-returns
+returns_2 c = let s = c in let e = c.checked-r.ensures in held_by_none s.args.words.now s.args.item.now s.args.file.now s.requires.0 s.requires.1 c.checked-r.result e.0 e.1 c.words_of-again.result c.words_of-again.ensures (sym c.same_words.ensures ∙ c.if-same_words.false)
 
-pub reader-in-spec : {M : Type 1} → statement M
-reader-in-spec =
+pub reader_in_spec : {M : Type 1} → statement M
+reader_in_spec =
     tie.close
     (tie.spec
-    element-copy-out-t9
-    element-copy-out-t13
-    element-copy-out-t17
-    checked-requires
-    words-of-requires
-    same-words-requires
+    element_copy_out_t9
+    element_copy_out_t13
+    element_copy_out_t17
+    checked_requires
+    words_of_requires
+    same_words_requires
     returns
-    returns-2)
+    returns_2)

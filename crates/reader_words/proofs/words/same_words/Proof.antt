@@ -9,55 +9,55 @@ use borrow.Author.Rules.{rules}
 use Rattle.reader_words.proofs.words.same_words.Statement.{statement}
 use Rattle.reader_words.proofs.words.same_words.Tie as tie
 
-abbrev invariant-loop : tie.invariant-loop
+abbrev invariant-loop : tie.invariant-loop-i
 invariant-loop a b i₀ i = (i ≤ reader_words) × (same_words a b i ≡ true)
 
-abbrev decreases-loop : tie.decreases-loop
+abbrev decreases-loop : tie.decreases-loop-i
 decreases-loop a b i₀ i = reader_words - i
 
-loop-holds : tie.Need-loop-init invariant-loop decreases-loop
-loop-holds c = (zero-le, none_compared c.args.a.now c.args.b.now)
+loop_holds : tie.Need-loop-i-init invariant-loop decreases-loop
+loop_holds c = (zero-le, none_compared c.args.a.now c.args.b.now)
 
-mul-if1 : tie.Need-overflow-mul-if1 invariant-loop decreases-loop
-mul-if1 c = search rules
+mul_if1 : tie.Need-offset_bounds-a-i invariant-loop decreases-loop
+mul_if1 c = search rules
 
-element-copy-out-if1 : tie.Need-element-copy-out-if1 invariant-loop decreases-loop
-element-copy-out-if1 c = search rules
+element_copy_out_if1 : tie.Need-bounds-a-i invariant-loop decreases-loop
+element_copy_out_if1 c = search rules
 
-mul-if1-2 : tie.Need-overflow-mul-if1-2 invariant-loop decreases-loop
-mul-if1-2 c = search rules
+mul_if1_2 : tie.Need-offset_bounds-b-i invariant-loop decreases-loop
+mul_if1_2 c = search rules
 
-element-copy-out-if1-2 : tie.Need-element-copy-out-if1-2 invariant-loop decreases-loop
-element-copy-out-if1-2 c = search rules
+element_copy_out_if1_2 : tie.Need-bounds-b-i invariant-loop decreases-loop
+element_copy_out_if1_2 c = search rules
 
-returns : tie.Need-returns invariant-loop decreases-loop
-returns c = let s = c.before.before.before.before.before in let l = c.before.before.before.before.loop in sym (one_differs s.args.a.now s.args.b.now l.i reader_words c.before.before.before.loop-test.true c.if1.true)
+returns : tie.Need-returns-then-a-i invariant-loop decreases-loop
+returns c = let s = c in let l = c.loop-i in sym (one_differs s.args.a.now s.args.b.now l.i reader_words c.loop-i-test.true c.if-a-i.true)
 
-add-i : tie.Need-overflow-add-i invariant-loop decreases-loop
-add-i c = search rules
+add_i : tie.Need-overflow_add-i invariant-loop decreases-loop
+add_i c = search rules
 
-loop-less : tie.Need-loop-smaller invariant-loop decreases-loop
-loop-less c = omega arith
+loop_less : tie.Need-loop-i-smaller invariant-loop decreases-loop
+loop_less c = omega arith
 
-loop-again : tie.Need-loop-preserved invariant-loop decreases-loop
-loop-again c = let s = c.before.before.before.before.before in let l = c.before.before.before.before.loop in (omega arith, rw (add-one l.i) (one_same s.args.a.now s.args.b.now l.i l.invariant.1 c.if1.false))
+loop_again : tie.Need-loop-i-preserved invariant-loop decreases-loop
+loop_again c = let s = c in let l = c.loop-i in (omega arith, rw (add-one l.i) (one_same s.args.a.now s.args.b.now l.i l.invariant.1 c.if-a-i.false))
 
-returns-2 : tie.Need-returns-2 invariant-loop decreases-loop
-returns-2 c = let s = c.before.before in let l = c.before.loop in let e : l.i ≡ reader_words = omega arith in sym (rw e at l.invariant.1)
+returns_2 : tie.Need-returns invariant-loop decreases-loop
+returns_2 c = let s = c in let l = c.loop-i in let e : l.i ≡ reader_words = omega arith in sym (rw e at l.invariant.1)
 
-pub same-words-spec : {M : Type 1} → statement M
-same-words-spec =
+pub same_words_spec : {M : Type 1} → statement M
+same_words_spec =
     tie.close
     (tie.spec
     invariant-loop
     decreases-loop
-    loop-holds
-    mul-if1
-    element-copy-out-if1
-    mul-if1-2
-    element-copy-out-if1-2
+    loop_holds
+    mul_if1
+    element_copy_out_if1
+    mul_if1_2
+    element_copy_out_if1_2
     returns
-    add-i
-    loop-less
-    loop-again
-    returns-2)
+    add_i
+    loop_less
+    loop_again
+    returns_2)

@@ -3,35 +3,35 @@ use borrow.Author.Rules.{rules}
 use Rattle.reader_words.proofs.words.words_of.Statement.{statement}
 use Rattle.reader_words.proofs.words.words_of.Tie as tie
 
-pack-front-requires : tie.Need-pack-front-requires
-pack-front-requires c κs = search rules
+pack_front_requires : tie.Need-pack_front-requires
+pack_front_requires c κs = search rules
 
-pack-front-requires-2 : tie.Need-pack-front-requires-2
-pack-front-requires-2 c κs = search rules
+pack_front_requires_2 : tie.Need-pack_front-requires-2
+pack_front_requires_2 c κs = search rules
 
-array-write-words : tie.Need-array-write-words
-array-write-words c = search rules
+array_write_words : tie.Need-bounds-words-40
+array_write_words c = search rules
 
-array-write-words-2 : tie.Need-array-write-words-2
-array-write-words-2 c = search rules
+array_write_words_2 : tie.Need-bounds-words-41
+array_write_words_2 c = search rules
 
-bit-requires : tie.Need-bit-requires
-bit-requires c κs = search rules
+bit_requires : tie.Need-bit-requires
+bit_requires c κs = search rules
 
-array-write-words-3 : tie.Need-array-write-words-3
-array-write-words-3 c = search rules
+array_write_words_3 : tie.Need-bounds-words-42
+array_write_words_3 c = search rules
 
 returns : tie.Need-returns
-returns c = let s = c.before.before.before.before.before.before.before in written s.args.r s.args.item.now s.args.file.now s.requires c.before.before.before.pack-front.new.0 c.before.pack-front2.new.0 c.bit.result c.before.before.before.pack-front.ensures c.before.pack-front2.ensures c.bit.ensures.0
+returns c = let s = c in written s.args.r s.args.item.now s.args.file.now s.requires c.pack_front.new.words c.pack_front-2.new.words c.bit.result c.pack_front.ensures c.pack_front-2.ensures c.bit.ensures.0
 
-pub words-of-spec : {M : Type 1} → statement M
-words-of-spec =
+pub words_of_spec : {M : Type 1} → statement M
+words_of_spec =
     tie.close
     (tie.spec
-    pack-front-requires
-    pack-front-requires-2
-    array-write-words
-    array-write-words-2
-    bit-requires
-    array-write-words-3
+    pack_front_requires
+    pack_front_requires_2
+    array_write_words
+    array_write_words_2
+    bit_requires
+    array_write_words_3
     returns)
