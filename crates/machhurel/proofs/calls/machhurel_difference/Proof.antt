@@ -5,15 +5,15 @@ use borrow.Author.Rules.{rules}
 use Rattle.machhurel.proofs.calls.machhurel_difference.Statement.{statement}
 use Rattle.machhurel.proofs.calls.machhurel_difference.Tie as tie
 
-part-logs-requires : tie.Need-part-logs-requires
-part-logs-requires c κs = search rules
+part_logs_requires : tie.Need-part_logs-parted-requires
+part_logs_requires c κs = search rules
 
-difference-bits-requires : tie.Need-difference-bits-requires
-difference-bits-requires c κs = search rules
+difference_bits_requires : tie.Need-difference_bits-requires
+difference_bits_requires c κs = search rules
 
 returns : tie.Need-returns
-returns c = let e = c.before.part-logs.ensures in (c.difference-bits.ensures ∙ ap difference_bits e, ap (λ (p : Parted). p.at) e)
+returns c = let e = c.part_logs-parted.ensures in (c.difference_bits.ensures ∙ ap difference_bits e, ap (λ (p : Parted). p.at) e)
 
-pub machhurel-difference-spec : {M : Type 1} → statement M
-machhurel-difference-spec =
-    tie.close (tie.spec part-logs-requires difference-bits-requires returns)
+pub machhurel_difference_spec : {M : Type 1} → statement M
+machhurel_difference_spec =
+    tie.close (tie.spec part_logs_requires difference_bits_requires returns)

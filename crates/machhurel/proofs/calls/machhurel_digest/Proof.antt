@@ -2,14 +2,14 @@ use borrow.Author.Rules.{rules}
 use Rattle.machhurel.proofs.calls.machhurel_digest.Statement.{statement}
 use Rattle.machhurel.proofs.calls.machhurel_digest.Tie as tie
 
-digest-answer-requires : tie.Need-digest-answer-requires
-digest-answer-requires c κs = search rules
+digest_answer_requires : tie.Need-digest_answer-requires
+digest_answer_requires c κs = search rules
 
-digest-bits-requires : tie.Need-digest-bits-requires
-digest-bits-requires c κs = search rules
+digest_bits_requires : tie.Need-digest_bits-requires
+digest_bits_requires c κs = search rules
 
 returns : tie.Need-returns
-returns c = rw (c.digest-bits.ensures, c.before.digest-answer.ensures)
+returns c = rw (c.digest_bits.ensures, c.digest_answer.ensures)
 
-pub machhurel-digest-spec : {M : Type 1} → statement M
-machhurel-digest-spec = tie.close (tie.spec digest-answer-requires digest-bits-requires returns)
+pub machhurel_digest_spec : {M : Type 1} → statement M
+machhurel_digest_spec = tie.close (tie.spec digest_answer_requires digest_bits_requires returns)

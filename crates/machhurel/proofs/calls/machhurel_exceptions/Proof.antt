@@ -2,15 +2,15 @@ use borrow.Author.Rules.{rules}
 use Rattle.machhurel.proofs.calls.machhurel_exceptions.Statement.{statement}
 use Rattle.machhurel.proofs.calls.machhurel_exceptions.Tie as tie
 
-exceptions-answer-requires : tie.Need-exceptions-answer-requires
-exceptions-answer-requires c κs = search rules
+exceptions_answer_requires : tie.Need-exceptions_answer-requires
+exceptions_answer_requires c κs = search rules
 
-exception-bits-requires : tie.Need-exception-bits-requires
-exception-bits-requires c κs = search rules
+exception_bits_requires : tie.Need-exception_bits-requires
+exception_bits_requires c κs = search rules
 
 returns : tie.Need-returns
-returns c = rw (c.exception-bits.ensures, c.before.exceptions-answer.ensures)
+returns c = rw (c.exception_bits.ensures, c.exceptions_answer.ensures)
 
-pub machhurel-exceptions-spec : {M : Type 1} → statement M
-machhurel-exceptions-spec =
-    tie.close (tie.spec exceptions-answer-requires exception-bits-requires returns)
+pub machhurel_exceptions_spec : {M : Type 1} → statement M
+machhurel_exceptions_spec =
+    tie.close (tie.spec exceptions_answer_requires exception_bits_requires returns)

@@ -5,18 +5,18 @@ use Rattle.answers.proofs.Counts.{listing_fits}
 use Rattle.machhurel.proofs.calls.machhurel_listing.Statement.{statement}
 use Rattle.machhurel.proofs.calls.machhurel_listing.Tie as tie
 
-list-operands-requires : tie.Need-list-operands-requires
-list-operands-requires c κs = search rules
+list_operands_requires : tie.Need-list_operands-requires
+list_operands_requires c κs = search rules
 
-answer-bits-requires : tie.Need-answer-bits-requires
-answer-bits-requires c κs = listing_fits _ _ _ c.before.before.list_operands.ensures
+answer_bits_requires : tie.Need-answer_bits-requires
+answer_bits_requires c κs = listing_fits _ _ _ c.list_operands.ensures
 
-same_length : tie.Need-same-length
+same_length : tie.Need-shape_of-out
 same_length c = search rules
 
 returns : tie.Need-returns
-returns c = rw c.answer-bits.ensures (ap packed c.before.before.before.list_operands.ensures)
+returns c = rw c.answer_bits.ensures (ap packed c.list_operands.ensures)
 
-pub machhurel-listing-spec : {M : Type 1} → statement M
-machhurel-listing-spec =
-    tie.close (tie.spec list-operands-requires answer-bits-requires same_length returns)
+pub machhurel_listing_spec : {M : Type 1} → statement M
+machhurel_listing_spec =
+    tie.close (tie.spec list_operands_requires answer_bits_requires same_length returns)

@@ -5,18 +5,18 @@ use Rattle.answers.proofs.Counts.{visit_fits}
 use Rattle.machhurel.proofs.calls.machhurel_visit.Statement.{statement}
 use Rattle.machhurel.proofs.calls.machhurel_visit.Tie as tie
 
-visit-accesses-requires : tie.Need-visit-accesses-requires
-visit-accesses-requires c κs = search rules
+visit_accesses_requires : tie.Need-visit_accesses-requires
+visit_accesses_requires c κs = search rules
 
-answer-bits-requires : tie.Need-answer-bits-requires
-answer-bits-requires c κs = visit_fits _ _ _ _ _ c.before.before.visit-accesses.ensures
+answer_bits_requires : tie.Need-answer_bits-requires
+answer_bits_requires c κs = visit_fits _ _ _ _ _ c.visit_accesses.ensures
 
-same_length : tie.Need-same-length
+same_length : tie.Need-shape_of-log
 same_length c = search rules
 
 returns : tie.Need-returns
-returns c = rw c.answer-bits.ensures (ap packed c.before.before.before.visit-accesses.ensures)
+returns c = rw c.answer_bits.ensures (ap packed c.visit_accesses.ensures)
 
-pub machhurel-visit-spec : {M : Type 1} → statement M
-machhurel-visit-spec =
-    tie.close (tie.spec visit-accesses-requires answer-bits-requires same_length returns)
+pub machhurel_visit_spec : {M : Type 1} → statement M
+machhurel_visit_spec =
+    tie.close (tie.spec visit_accesses_requires answer_bits_requires same_length returns)
