@@ -37,7 +37,14 @@ fn main(rt: HostRuntime) -> io::Result<()> {
 fn room_for_list() -> [u8; 600000]
     ensures { 600000 ≡ length result }
 {
-    [0; 600000]
+    zeros()
+}
+
+// Over any N, so that no proof looks at each byte either.
+fn zeros<const N: usize>() -> [u8; N]
+    ensures { N ≡ length result }
+{
+    [0; N]
 }
 
 // Reads until the file ends or the room is full, and answers how many bytes stand at its front.
