@@ -4,47 +4,47 @@ use Rattle.replay.specs.Left.{left_at}
 use Rattle.replay.proofs.calls.is_left.Statement.{statement}
 use Rattle.replay.proofs.calls.is_left.Tie as tie
 
-abbrev invariant-loop : tie.invariant-loop
+abbrev invariant-loop : tie.invariant-loop-i
 invariant-loop buffer start written i₀ i = (i ≤ length buffer) × ((k : ℕ) → k < i → get_or buffer k 0 ≡ left_at start written k)
 
-abbrev decreases-loop : tie.decreases-loop
+abbrev decreases-loop : tie.decreases-loop-i
 decreases-loop buffer start written i₀ i = length buffer - i
 
-loop-holds : tie.Need-loop-init invariant-loop decreases-loop
-loop-holds c = search rules
+loop_holds : tie.Need-loop-i-init invariant-loop decreases-loop
+loop_holds c = search rules
 
-shared-slice-read-if1 : tie.Need-shared-slice-read-if1 invariant-loop decreases-loop
-shared-slice-read-if1 c = search rules
+shared_slice_read_if1 : tie.Need-bounds-buffer-i invariant-loop decreases-loop
+shared_slice_read_if1 c = search rules
 
-left-at-requires : tie.Need-left-at-requires invariant-loop decreases-loop
-left-at-requires c κs = tt
+left_at_requires : tie.Need-left_at-requires invariant-loop decreases-loop
+left_at_requires c κs = tt
 
-returns : tie.Need-returns invariant-loop decreases-loop
+returns : tie.Need-returns-then-buffer-i invariant-loop decreases-loop
 returns c = λ t. let z : ◌≡◌ {A = ℕ} 0 1 = cc in omega arith
 
-add-i : tie.Need-overflow-add-i invariant-loop decreases-loop
-add-i c = omega arith
+add_i : tie.Need-overflow_add-i invariant-loop decreases-loop
+add_i c = omega arith
 
-loop-less : tie.Need-loop-smaller invariant-loop decreases-loop
-loop-less c = omega arith
+loop_less : tie.Need-loop-i-smaller invariant-loop decreases-loop
+loop_less c = omega arith
 
-loop-again : tie.Need-loop-preserved invariant-loop decreases-loop
-loop-again c = (omega arith, below_more _ _ c.before.before.before.before.loop.invariant.1 ((cc)))
+loop_again : tie.Need-loop-i-preserved invariant-loop decreases-loop
+loop_again c = (omega arith, below_more _ _ c.loop-i.invariant.1 ((cc)))
 
-returns-2 : tie.Need-returns-2 invariant-loop decreases-loop
-returns-2 c = λ t k h. c.before.loop.invariant.1 k (omega arith)
+returns_2 : tie.Need-returns invariant-loop decreases-loop
+returns_2 c = λ t k h. c.loop-i.invariant.1 k (omega arith)
 
-pub is-left-spec : {M : Type 1} → statement M
-is-left-spec =
+pub is_left_spec : {M : Type 1} → statement M
+is_left_spec =
     tie.close
     (tie.spec
     invariant-loop
     decreases-loop
-    loop-holds
-    shared-slice-read-if1
-    left-at-requires
+    loop_holds
+    shared_slice_read_if1
+    left_at_requires
     returns
-    add-i
-    loop-less
-    loop-again
-    returns-2)
+    add_i
+    loop_less
+    loop_again
+    returns_2)

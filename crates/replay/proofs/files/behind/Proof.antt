@@ -3,51 +3,51 @@ use Rattle.std.proofs.Common.{◌-◌, ◌≤◌, arith, rules}
 use Rattle.replay.proofs.files.behind.Statement.{statement}
 use Rattle.replay.proofs.files.behind.Tie as tie
 
-abbrev invariant-loop : tie.invariant-loop
+abbrev invariant-loop : tie.invariant-loop-i
 invariant-loop list count at₀ i₀ at i = i ≤ count
 
-abbrev decreases-loop : tie.decreases-loop
+abbrev decreases-loop : tie.decreases-loop-i
 decreases-loop list count at₀ i₀ at i = count - i
 
-loop-holds : tie.Need-loop-init invariant-loop decreases-loop
-loop-holds c = omega arith
+loop_holds : tie.Need-loop-i-init invariant-loop decreases-loop
+loop_holds c = omega arith
 
-file-at-requires : tie.Need-file-at-requires invariant-loop decreases-loop
-file-at-requires c κs = tt
+file_at_requires : tie.Need-file_at-requires invariant-loop decreases-loop
+file_at_requires c κs = tt
 
-enum-known-to : tie.Need-enum-known-to invariant-loop decreases-loop
-enum-known-to c = search rules
+enum_known_to : tie.Need-enum_known-to invariant-loop decreases-loop
+enum_known_to c = search rules
 
-enum_told : tie.Need-enum-told invariant-loop decreases-loop
+enum_told : tie.Need-enum_told-1 invariant-loop decreases-loop
 enum_told c = search rules
 
-returns : tie.Need-returns invariant-loop decreases-loop
+returns : tie.Need-returns-in_default invariant-loop decreases-loop
 returns c = tt
 
-add-i : tie.Need-overflow-add-i invariant-loop decreases-loop
-add-i c = omega arith
+add_i : tie.Need-overflow_add-i invariant-loop decreases-loop
+add_i c = omega arith
 
-loop-less : tie.Need-loop-smaller invariant-loop decreases-loop
-loop-less c = omega arith
+loop_less : tie.Need-loop-i-smaller invariant-loop decreases-loop
+loop_less c = omega arith
 
-loop-again : tie.Need-loop-preserved invariant-loop decreases-loop
-loop-again c = omega arith
+loop_again : tie.Need-loop-i-preserved invariant-loop decreases-loop
+loop_again c = omega arith
 
-returns-2 : tie.Need-returns-2 invariant-loop decreases-loop
-returns-2 c = tt
+returns_2 : tie.Need-returns invariant-loop decreases-loop
+returns_2 c = tt
 
-pub behind-spec : {M : Type 1} → statement M
-behind-spec =
+pub behind_spec : {M : Type 1} → statement M
+behind_spec =
     tie.close
     (tie.spec
     invariant-loop
     decreases-loop
-    loop-holds
-    file-at-requires
-    enum-known-to
+    loop_holds
+    file_at_requires
+    enum_known_to
     enum_told
     returns
-    add-i
-    loop-less
-    loop-again
-    returns-2)
+    add_i
+    loop_less
+    loop_again
+    returns_2)

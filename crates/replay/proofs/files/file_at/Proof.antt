@@ -4,44 +4,44 @@ use Rattle.replay.proofs.Parts.{within}
 use Rattle.replay.proofs.files.file_at.Statement.{statement}
 use Rattle.replay.proofs.files.file_at.Tie as tie
 
-part-at-requires : tie.Need-part-at-requires
-part-at-requires c κs = search rules
+part_at_requires : tie.Need-part_at-requires
+part_at_requires c κs = search rules
 
-enum-known-from : tie.Need-enum-known-from
-enum-known-from c = search rules
+enum_known_from : tie.Need-enum_known-from
+enum_known_from c = search rules
 
-enum_told : tie.Need-enum-told
+enum_told : tie.Need-enum_told-1
 enum_told c = search rules
 
-returns : tie.Need-returns
+returns : tie.Need-returns-in_default
 returns c = search rules
 
-u16-at-requires : tie.Need-u16-at-requires
-u16-at-requires c κs = let p = rw c.before.from.given.1 at c.before.before.before.part_at.ensures in omega arith
+u16_at_requires : tie.Need-u16_at-requires
+u16_at_requires c κs = let p = rw c.in-Bytes.is at c.part_at.ensures in omega arith
 
-cast-part-at : tie.Need-overflow-cast-part-at
-cast-part-at c = search rules
+cast_part_at : tie.Need-overflow_cast-u16_at
+cast_part_at c = search rules
 
-part-at-requires-2 : tie.Need-part-at-requires-2
-part-at-requires-2 c κs = search rules
+part_at_requires_2 : tie.Need-part_at-requires-2
+part_at_requires_2 c κs = search rules
 
-returns-2 : tie.Need-returns-2
-returns-2 c =
-    within (length c.before.before.before.before.before.before.before.args.list.now)
-    c.before.before.before.from.given.0.1.0
-    c.before.u16-at.result
-    c.part-at2.result
-    c.part-at2.ensures
+returns_2 : tie.Need-returns
+returns_2 c =
+    within (length c.args.list.now)
+    c.in-Bytes.to
+    c.u16_at.result
+    c.part_at-2.result
+    c.part_at-2.ensures
 
-pub file-at-spec : {M : Type 1} → statement M
-file-at-spec =
+pub file_at_spec : {M : Type 1} → statement M
+file_at_spec =
     tie.close
     (tie.spec
-    part-at-requires
-    enum-known-from
+    part_at_requires
+    enum_known_from
     enum_told
     returns
-    u16-at-requires
-    cast-part-at
-    part-at-requires-2
-    returns-2)
+    u16_at_requires
+    cast_part_at
+    part_at_requires_2
+    returns_2)
