@@ -50,14 +50,12 @@ fn take_all(
     requires { most_log_bytes ≤ length carry.old }
 {
     let mut f = filing::begin();
-    let mut turns = u64::MAX;
-    while 0 < turns {
+    for _ in 0..u64::MAX {
         let t = take_block(file, f, words, carry, block)?;
         f = t.feed;
         if !t.more {
             return Ok(f);
         }
-        turns = turns - 1;
     }
     Err(io::Error::other("no end"))
 }

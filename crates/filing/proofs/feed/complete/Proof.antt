@@ -4,46 +4,46 @@ use borrow.Author.Rules.{rules}
 use Rattle.filing.proofs.feed.complete.Statement.{statement}
 use Rattle.filing.proofs.feed.complete.Tie as tie
 
-enum_told : tie.Need-enum-told
+enum_told : tie.Need-enum_told-1
 enum_told c = search rules
 
-take-header-requires : tie.Need-take-header-requires
-take-header-requires c κs = let e = rw c.before.enum_told.given.1 at c.before.before.before.before.requires in omega arith
+take_header_requires : tie.Need-take_header-requires
+take_header_requires c κs = let e = rw c.in-Header.is at c.requires in omega arith
 
-enum-told-2 : tie.Need-enum-told-2
-enum-told-2 c = search rules
+enum_told_2 : tie.Need-enum_told-in-Length
+enum_told_2 c = search rules
 
-take-length-requires : tie.Need-take-length-requires
-take-length-requires c κs = let e = rw c.before.enum-told2.given.1 at c.before.before.before.before.requires in omega arith
+take_length_requires : tie.Need-take_length-requires
+take_length_requires c κs = let e = rw c.in-Length.is at c.requires in omega arith
 
-enum-told-3 : tie.Need-enum-told-3
-enum-told-3 c = search rules
+enum_told_3 : tie.Need-enum_told-in-Log
+enum_told_3 c = search rules
 
-take-log-requires : tie.Need-take-log-requires
-take-log-requires c κs = search rules
+take_log_requires : tie.Need-take_log-requires
+take_log_requires c κs = search rules
 
-returns : tie.Need-returns
+returns : tie.Need-returns-in-Header
 unfolding completed
-returns c = rw c.before.before.enum_told.given.1 c.take-header.ensures
+returns c = rw c.in-Header.is c.take_header.ensures
 
-returns-2 : tie.Need-returns-2
+returns_2 : tie.Need-returns-in-Length
 unfolding completed
-returns-2 c = rw c.before.before.enum-told2.given.1 c.take-length.ensures
+returns_2 c = rw c.in-Length.is c.take_length.ensures
 
-returns-3 : tie.Need-returns-3
+returns_3 : tie.Need-returns-in-Log
 unfolding completed
-returns-3 c = rw c.before.before.enum-told3.given.1 c.take-log.ensures
+returns_3 c = rw c.in-Log.is c.take_log.ensures
 
-pub complete-spec : {M : Type 1} → statement M
-complete-spec =
+pub complete_spec : {M : Type 1} → statement M
+complete_spec =
     tie.close
     (tie.spec
     enum_told
-    take-header-requires
-    enum-told-2
-    take-length-requires
-    enum-told-3
-    take-log-requires
+    take_header_requires
+    enum_told_2
+    take_length_requires
+    enum_told_3
+    take_log_requires
     returns
-    returns-2
-    returns-3)
+    returns_2
+    returns_3)

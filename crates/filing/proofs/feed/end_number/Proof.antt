@@ -5,20 +5,20 @@ use borrow.Author.Rules.{rules}
 use Rattle.filing.proofs.feed.end_number.Statement.{statement}
 use Rattle.filing.proofs.feed.end_number.Tie as tie
 
-returns : tie.Need-returns
+returns : tie.Need-returns-then-f-ne0
 unfolding end_number
-returns c = rw (ne_eqb _ _ c.if1.true)
+returns c = rw (ne_eqb _ _ c.if-f-ne0.true)
 
-is-done-requires : tie.Need-is-done-requires
-is-done-requires c κs = search rules
+is_done_requires : tie.Need-is_done-requires
+is_done_requires c κs = search rules
 
-returns-2 : tie.Need-returns-2
+returns_2 : tie.Need-returns-then-is_done
 unfolding end_number
-returns-2 c = rw (eq-eqb _ _ c.before.before.if1.false, sym c.before.is-done.ensures ∙ c.if2.true)
+returns_2 c = rw (eq-eqb _ _ c.if-f-ne0.false, sym c.is_done.ensures ∙ c.if-is_done.true)
 
-returns-3 : tie.Need-returns-3
+returns_3 : tie.Need-returns
 unfolding end_number
-returns-3 c = rw (eq-eqb _ _ c.before.before.if1.false, sym c.before.is-done.ensures ∙ c.if2.false)
+returns_3 c = rw (eq-eqb _ _ c.if-f-ne0.false, sym c.is_done.ensures ∙ c.if-is_done.false)
 
-pub end-number-spec : {M : Type 1} → statement M
-end-number-spec = tie.close (tie.spec returns is-done-requires returns-2 returns-3)
+pub end_number_spec : {M : Type 1} → statement M
+end_number_spec = tie.close (tie.spec returns is_done_requires returns_2 returns_3)

@@ -9,49 +9,49 @@ use Rattle.filing.proofs.Pushing.{step, over}
 use Rattle.filing.proofs.feed.feed_block.Statement.{statement}
 use Rattle.filing.proofs.feed.feed_block.Tie as tie
 
-abbrev invariant-loop : tie.invariant-loop
+abbrev invariant-loop : tie.invariant-loop-i
 invariant-loop words₀ carry₀ block g₀ i₀ words carry g i =
     (i ≤ length block) × Ready g carry × (length carry ≡ length carry₀)
     × (fed (state_of g₀ words₀ carry₀) block ≡ fed (state_of g words carry) (drop i block))
 
-abbrev decreases-loop : tie.decreases-loop
+abbrev decreases-loop : tie.decreases-loop-i
 decreases-loop words₀ carry₀ block g₀ i₀ words carry g i = length block - i
 
-loop-holds : tie.Need-loop-init invariant-loop decreases-loop
-loop-holds c = (zero-le, c.before.before.requires, refl, refl)
+loop_holds : tie.Need-loop-i-init invariant-loop decreases-loop
+loop_holds c = (zero-le, c.requires, refl, refl)
 
-shared-slice-read-push : tie.Need-shared-slice-read-push invariant-loop decreases-loop
-shared-slice-read-push c = search rules
+shared_slice_read_push : tie.Need-bounds-block-i invariant-loop decreases-loop
+shared_slice_read_push c = search rules
 
-push-requires : tie.Need-push-requires invariant-loop decreases-loop
-push-requires c κs = c.before.before.before.before.loop.invariant.1
+push_requires : tie.Need-push-g-requires invariant-loop decreases-loop
+push_requires c κs = c.loop-i.invariant.1
 
-add-i : tie.Need-overflow-add-i invariant-loop decreases-loop
-add-i c = search rules
+add_i : tie.Need-overflow_add-i invariant-loop decreases-loop
+add_i c = search rules
 
-loop-less : tie.Need-loop-smaller invariant-loop decreases-loop
-loop-less c = omega arith
+loop_less : tie.Need-loop-i-smaller invariant-loop decreases-loop
+loop_less c = omega arith
 
-loop-again : tie.Need-loop-preserved invariant-loop decreases-loop
-loop-again c = let l = c.before.before.before.before.before.before.before.loop in let b = c.before.before.before.before.before.before.before.before.before.before.args.block.now in (omega arith, c.before.before.push.ensures.1, c.before.carry.given ∙ l.invariant.2, l.invariant.3 ∙ step (state_of l.g l.words l.carry) b l.i c.before.before.before.before.before.before.loop-test.true ∙ ap (λ (s : State). fed s (drop (l.i + 1) b)) (sym c.before.before.push.ensures.0))
+loop_again : tie.Need-loop-i-preserved invariant-loop decreases-loop
+loop_again c = let l = c.loop-i in let b = c.args.block.now in (omega arith, c.push-g.ensures.1, c.carry-1.given ∙ l.invariant.2, l.invariant.3 ∙ step (state_of l.g l.words l.carry) b l.i c.loop-i-test.true ∙ ap (λ (s : State). fed s (drop (l.i + 1) b)) (sym c.push-g.ensures.0))
 
-same_length : tie.Need-same-length invariant-loop decreases-loop
-same_length c = c.before.loop.invariant.2
+same_length : tie.Need-shape_of-carry invariant-loop decreases-loop
+same_length c = c.loop-i.invariant.2
 
 returns : tie.Need-returns invariant-loop decreases-loop
-returns c = let l = c.before.loop in (sym (l.invariant.3 ∙ over (state_of l.g l.words l.carry) c.before.before.before.before.args.block.now l.i c.loop-test.false), l.invariant.1)
+returns c = let l = c.loop-i in (sym (l.invariant.3 ∙ over (state_of l.g l.words l.carry) c.args.block.now l.i c.loop-i-test.false), l.invariant.1)
 
-pub feed-block-spec : {M : Type 1} → statement M
-feed-block-spec =
+pub feed_block_spec : {M : Type 1} → statement M
+feed_block_spec =
     tie.close
     (tie.spec
     invariant-loop
     decreases-loop
-    loop-holds
-    shared-slice-read-push
-    push-requires
-    add-i
-    loop-less
-    loop-again
+    loop_holds
+    shared_slice_read_push
+    push_requires
+    add_i
+    loop_less
+    loop_again
     same_length
     returns)

@@ -4,43 +4,43 @@ use borrow.Author.Rules.{rules}
 use Rattle.filing.proofs.feed.is_full.Statement.{statement}
 use Rattle.filing.proofs.feed.is_full.Tie as tie
 
-enum_told : tie.Need-enum-told
+enum_told : tie.Need-enum_told-1
 enum_told c = search rules
 
-enum-told-2 : tie.Need-enum-told-2
-enum-told-2 c = search rules
+enum_told_2 : tie.Need-enum_told-in-Length
+enum_told_2 c = search rules
 
-element-copy-out-result : tie.Need-element-copy-out-result
-element-copy-out-result c = search rules
+element_copy_out_result : tie.Need-bounds-words-2
+element_copy_out_result c = search rules
 
-enum-told-3 : tie.Need-enum-told-3
-enum-told-3 c = search rules
+enum_told_3 : tie.Need-enum_told-in-Log
+enum_told_3 c = search rules
 
-returns : tie.Need-returns
+returns : tie.Need-returns-in-Header
 unfolding is_full
-returns c = rw c.enum_told.given.1
+returns c = rw c.in-Header.is
 
-returns-2 : tie.Need-returns-2
+returns_2 : tie.Need-returns-then-f-eq0
 unfolding is_full
-returns-2 c = rw (c.before.before.before.enum-told2.given.1, eq-eqb _ _ c.before.if1.true)
+returns_2 c = rw (c.in-Length.is, eq-eqb _ _ c.if-f-eq0.true)
 
-returns-3 : tie.Need-returns-3
+returns_3 : tie.Need-returns-else-f-eq0
 unfolding is_full
-returns-3 c = rw (c.before.before.enum-told2.given.1, ne_eqb _ _ c.if1.false)
+returns_3 c = rw (c.in-Length.is, ne_eqb _ _ c.if-f-eq0.false)
 
-returns-4 : tie.Need-returns-4
+returns_4 : tie.Need-returns-in-Log
 unfolding is_full
-returns-4 c = rw c.enum-told3.given.1
+returns_4 c = rw c.in-Log.is
 
-pub is-full-spec : {M : Type 1} → statement M
-is-full-spec =
+pub is_full_spec : {M : Type 1} → statement M
+is_full_spec =
     tie.close
     (tie.spec
     enum_told
-    enum-told-2
-    element-copy-out-result
-    enum-told-3
+    enum_told_2
+    element_copy_out_result
+    enum_told_3
     returns
-    returns-2
-    returns-3
-    returns-4)
+    returns_2
+    returns_3
+    returns_4)

@@ -4,32 +4,32 @@ use borrow.Author.Rules.{rules}
 use Rattle.filing.proofs.feed.take_header.Statement.{statement}
 use Rattle.filing.proofs.feed.take_header.Tie as tie
 
-u64-at-requires : tie.Need-u64-at-requires
-u64-at-requires c κs = search rules
+u64_at_requires : tie.Need-u64_at-address-requires
+u64_at_requires c κs = search rules
 
-shared-slice-read-new-sheet : tie.Need-shared-slice-read-new-sheet
-shared-slice-read-new-sheet c = search rules
+shared_slice_read_new_sheet : tie.Need-bounds-item-8
+shared_slice_read_new_sheet c = search rules
 
-cast-new-sheet : tie.Need-overflow-cast-new-sheet
-cast-new-sheet c = record { fits = omega (arith, c.shared-slice-known2.given 8) }
+cast_new_sheet : tie.Need-overflow_cast-item
+cast_new_sheet c = record { fits = omega (arith, c.shared_slice_known-2-1.given 8) }
 
-new-sheet-requires : tie.Need-new-sheet-requires
-new-sheet-requires c κs = search rules
+new_sheet_requires : tie.Need-new_sheet-requires
+new_sheet_requires c κs = search rules
 
-waiting-requires : tie.Need-waiting-requires
-waiting-requires c κs = search rules
+waiting_requires : tie.Need-waiting-requires
+waiting_requires c κs = search rules
 
 returns : tie.Need-returns
 unfolding headed
-returns c = rw (← c.before.before.before.before.u64-at.ensures, ← c.before.new-sheet.ensures, c.waiting.ensures)
+returns c = rw (← c.u64_at-address.ensures, ← c.new_sheet.ensures, c.waiting.ensures)
 
-pub take-header-spec : {M : Type 1} → statement M
-take-header-spec =
+pub take_header_spec : {M : Type 1} → statement M
+take_header_spec =
     tie.close
     (tie.spec
-    u64-at-requires
-    shared-slice-read-new-sheet
-    cast-new-sheet
-    new-sheet-requires
-    waiting-requires
+    u64_at_requires
+    shared_slice_read_new_sheet
+    cast_new_sheet
+    new_sheet_requires
+    waiting_requires
     returns)

@@ -4,42 +4,38 @@ use borrow.Author.Rules.{rules}
 use Rattle.filing.proofs.feed.take_length.Statement.{statement}
 use Rattle.filing.proofs.feed.take_length.Tie as tie
 
-u32-at-requires : tie.Need-u32-at-requires
-u32-at-requires c κs = search rules
+u32_at_requires : tie.Need-u32_at-n-requires
+u32_at_requires c κs = search rules
 
-cast-n : tie.Need-overflow-cast-n
-cast-n c = search rules
+cast_n : tie.Need-overflow_cast-n
+cast_n c = search rules
 
-waiting-requires : tie.Need-waiting-requires
-waiting-requires c κs = search rules
+waiting_requires : tie.Need-waiting-requires
+waiting_requires c κs = search rules
 
-returns : tie.Need-returns
+returns : tie.Need-returns-then-n-gt-MOST_LOG_BYTES
 unfolding sized
-returns c = rw (← c.before.before.u32-at.ensures, lt-ltb _ _ c.before.if1.true, c.waiting.ensures)
+returns c = rw (← c.u32_at-n.ensures, lt-ltb _ _ c.if-n-gt-MOST_LOG_BYTES.true, c.waiting.ensures)
 
-slice-aggregate-take-log : tie.Need-slice-aggregate-take-log
-slice-aggregate-take-log c = search rules
+take_log_requires : tie.Need-take_log-requires
+take_log_requires c κs = search rules
 
-take-log-requires : tie.Need-take-log-requires
-take-log-requires c κs = search rules
-
-returns-2 : tie.Need-returns-2
+returns_2 : tie.Need-returns-then-n-eq0
 unfolding sized
-returns-2 c = rw (← c.before.before.before.before.before.u32-at.ensures, le-ltb _ _ c.before.before.before.before.if1.false, eq-eqb _ _ c.before.before.before.if2.true) c.take-log.ensures
+returns_2 c = rw (← c.u32_at-n.ensures, le-ltb _ _ c.if-n-gt-MOST_LOG_BYTES.false, eq-eqb _ _ c.if-n-eq0.true) c.take_log.ensures
 
-returns-3 : tie.Need-returns-3
+returns_3 : tie.Need-returns
 unfolding sized
-returns-3 c = rw (← c.before.before.u32-at.ensures, le-ltb _ _ c.before.if1.false, ne_eqb _ _ c.if2.false)
+returns_3 c = rw (← c.u32_at-n.ensures, le-ltb _ _ c.if-n-gt-MOST_LOG_BYTES.false, ne_eqb _ _ c.if-n-eq0.false)
 
-pub take-length-spec : {M : Type 1} → statement M
-take-length-spec =
+pub take_length_spec : {M : Type 1} → statement M
+take_length_spec =
     tie.close
     (tie.spec
-    u32-at-requires
-    cast-n
-    waiting-requires
+    u32_at_requires
+    cast_n
+    waiting_requires
     returns
-    slice-aggregate-take-log
-    take-log-requires
-    returns-2
-    returns-3)
+    take_log_requires
+    returns_2
+    returns_3)

@@ -6,23 +6,20 @@ use borrow.Author.Rules.{rules}
 use Rattle.printing.proofs.lines.put_count.Statement.{statement}
 use Rattle.printing.proofs.lines.put_count.Tie as tie
 
-returns : tie.Need-returns
-returns c = rw (none_at_zero c.before.before.before.args.letter.now c.before.before.before.args.k c.before.before.before.args.n c.if1.true) (silent word_bytes c.before.before.before.args.out.now)
+returns : tie.Need-returns-then-n-eq0
+returns c = rw (none_at_zero c.args.letter.now c.args.k c.args.n c.if-n-eq0.true) (silent word_bytes c.args.out.now)
 
-slice-aggregate-put-pair : tie.Need-slice-aggregate-put-pair
-slice-aggregate-put-pair c = search rules
-
-put-pair-requires : tie.Need-put-pair-requires
+put_pair_requires : tie.Need-put_pair-requires
 unfolding ascii
-put-pair-requires c κs = let s = c.before.before.before.before.before in rw (some_else s.args.letter.now s.args.k s.args.n c.before.before.if1.false) at s.requires
+put_pair_requires c κs = let s = c in rw (some_else s.args.letter.now s.args.k s.args.n c.if-n-eq0.false) at s.requires
 
-same_length : tie.Need-same-length
+same_length : tie.Need-shape_of-out
 same_length c = search rules
 
-returns-2 : tie.Need-returns-2
+returns_2 : tie.Need-returns
 unfolding ascii
-returns-2 c = let s = c.before.before.before.before.before.before.before.before in rw (some_else s.args.letter.now s.args.k s.args.n c.before.before.before.before.before.if1.false) c.before.before.put-pair.ensures
+returns_2 c = let s = c in rw (some_else s.args.letter.now s.args.k s.args.n c.if-n-eq0.false) c.put_pair.ensures
 
-pub put-count-spec : {M : Type 1} → statement M
-put-count-spec =
-    tie.close (tie.spec returns slice-aggregate-put-pair put-pair-requires same_length returns-2)
+pub put_count_spec : {M : Type 1} → statement M
+put_count_spec =
+    tie.close (tie.spec returns put_pair_requires same_length returns_2)

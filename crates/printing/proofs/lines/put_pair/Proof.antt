@@ -3,71 +3,63 @@ use Prim.Native.Nat.{◌+◌}
 use mathlib.Core.List.{[], ◌∷◌}
 use borrow.Author.Rules.{rules}
 use Rattle.laws.proofs.Lending.{back, Going, first, next, inside, fits, fits_first, ends, whole}
-use Rattle.decimal.specs.Words.{letters, word_bytes}
+use Rattle.decimal.specs.Words.{word_bytes}
 use Rattle.printing.specs.Ascii.{ascii}
 use Rattle.printing.specs.Texts.{around, pair_line}
 use Rattle.printing.proofs.lines.put_pair.Statement.{statement}
 use Rattle.printing.proofs.lines.put_pair.Tie as tie
 
-put-around-requires : tie.Need-put-around-requires
+put_around_requires : tie.Need-put_around-a-requires
 unfolding pair_line
-put-around-requires c κs = let s = c.before.before.before.before in fits_first word_bytes (around s.args.before.now s.args.m s.args.between.now) ((around [] s.args.n (ascii "\n")) ∷ []) s.requires
+put_around_requires c κs = let s = c in fits_first word_bytes (around s.args.before.now s.args.m s.args.between.now) ((around [] s.args.n (ascii "\n")) ∷ []) s.requires
 
 one :
-    (c : tie.After-put-around) → let s = c.before.before.before.before.before in
-    Going word_bytes (pair_line s.args.before.now s.args.m s.args.between.now s.args.n) ((around [] s.args.n (ascii "\n")) ∷ []) s.args.out.now c.put-around.new.0 c.put-around.result
+    (c : tie.After-put_around-a) → let s = c in
+    Going word_bytes (pair_line s.args.before.now s.args.m s.args.between.now s.args.n) ((around [] s.args.n (ascii "\n")) ∷ []) s.args.out.now c.put_around-a.new.out c.put_around-a.result
 unfolding pair_line
-one c = let s = c.before.before.before.before.before in first ((around [] s.args.n (ascii "\n")) ∷ []) c.put-around.ensures s.requires s.well-formed.0.0
+one c = let s = c in first ((around [] s.args.n (ascii "\n")) ∷ []) c.put_around-a.ensures s.requires s.well_formed.0.0
 
-sub-put-around : tie.Need-overflow-sub-put-around
+sub_put_around : tie.Need-slice_bounds-put_around-count
 unfolding ascii
-sub-put-around c = inside (one c.before.before)
+sub_put_around c = inside (one c.before.before)
 
-part-put-around-start : tie.Need-slice-bounds-put-around-start
+part_put_around_start : tie.Need-slice_bounds-put_around-start
 unfolding ascii
-part-put-around-start c = inside (one c.before.before)
+part_put_around_start c = inside (one c.before.before)
 
-part-put-around-end : tie.Need-slice-bounds-put-around-end
-part-put-around-end c = search rules
+part_put_around_end : tie.Need-slice_bounds-put_around-end
+part_put_around_end c = search rules
 
-slice-aggregate-put-around : tie.Need-slice-aggregate-put-around
-slice-aggregate-put-around c = search rules
-
-slice-aggregate-put-around-2 : tie.Need-slice-aggregate-put-around-2
-slice-aggregate-put-around-2 c = search rules
-
-put-around-requires-2 : tie.Need-put-around-requires-2
+put_around_requires_2 : tie.Need-put_around-requires
 unfolding ascii
-put-around-requires-2 c κs = fits (one c.before.before.before.before.before)
+put_around_requires_2 c κs = fits (one c.before.before.before.before.before.before.before)
 
-add-result : tie.Need-overflow-add-result
+add_result : tie.Need-overflow_add-result
 unfolding ascii
-add-result c = ends (one c.before.before.before.before.before.before.before.before) c.before.before.put-around2.ensures
+add_result c = ends (one c.before.before.before.before.before.before.before.before.before.before) c.put_around.ensures
 
-same_length : tie.Need-same-length
+same_length : tie.Need-shape_of-out
 same_length c = search rules
 
 two :
-    (c : tie.After-put-around2) → let s = c.before.before.before.before.before.before.before.before.before.before.before in
-    Going word_bytes (pair_line s.args.before.now s.args.m s.args.between.now s.args.n) ([]) s.args.out.now (back c.before.before.before.before.before.before.put-around.new.0 c.before.before.before.before.before.before.put-around.result c.put-around2.new.0) (c.before.before.before.before.before.before.put-around.result + c.put-around2.result)
+    (c : tie.After-put_around) → let s = c in
+    Going word_bytes (pair_line s.args.before.now s.args.m s.args.between.now s.args.n) ([]) s.args.out.now (back c.put_around-a.new.out c.put_around-a.result c.put_around.new.out) (c.put_around-a.result + c.put_around.result)
 unfolding ascii
-two c = next (one c.before.before.before.before.before.before) c.put-around2.ensures
+two c = next (one c.before.before.before.before.before.before.before.before) c.put_around.ensures
 
 returns : tie.Need-returns
 unfolding ascii
 returns c = whole (two c.before.before)
 
-pub put-pair-spec : {M : Type 1} → statement M
-put-pair-spec =
+pub put_pair_spec : {M : Type 1} → statement M
+put_pair_spec =
     tie.close
     (tie.spec
-    put-around-requires
-    sub-put-around
-    part-put-around-start
-    part-put-around-end
-    slice-aggregate-put-around
-    slice-aggregate-put-around-2
-    put-around-requires-2
-    add-result
+    put_around_requires
+    sub_put_around
+    part_put_around_start
+    part_put_around_end
+    put_around_requires_2
+    add_result
     same_length
     returns)

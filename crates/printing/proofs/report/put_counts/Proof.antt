@@ -13,90 +13,90 @@ use Rattle.printing.proofs.Counting.{parted, line_first, line_none, line_all}
 use Rattle.printing.proofs.report.put_counts.Statement.{statement}
 use Rattle.printing.proofs.report.put_counts.Tie as tie
 
-abbrev invariant-loop : tie.invariant-loop
+abbrev invariant-loop : tie.invariant-loop-k
 invariant-loop out₀ letter words base first count end n₀ k₀ out n k =
     (end ≡ first + count) × (k ≤ end)
     × Going word_bytes (count_lines letter base first count words) (count_lines letter base k (end - k) words ∷ []) out₀ out n
 
-abbrev decreases-loop : tie.decreases-loop
+abbrev decreases-loop : tie.decreases-loop-k
 decreases-loop out₀ letter words base first count end n₀ k₀ out n k = end - k
 
-add-end : tie.Need-overflow-add-end invariant-loop decreases-loop
-add-end c = search rules
+add_end : tie.Need-overflow_add-end invariant-loop decreases-loop
+add_end c = search rules
 
-loop-holds : tie.Need-loop-init invariant-loop decreases-loop
-loop-holds c = let s = c.before.before in (refl, omega arith, begins (line_all s.args.letter.now s.args.base s.args.words.now s.args.first s.args.count) s.requires.0 s.well-formed.0.0)
+loop_holds : tie.Need-loop-k-init invariant-loop decreases-loop
+loop_holds c = let s = c in (refl, omega arith, begins (line_all s.args.letter.now s.args.base s.args.words.now s.args.first s.args.count) s.requires.0 s.well_formed.0.0)
 
 -- the line of number k, and the others
 ready :
-    (c : tie.In-loop invariant-loop decreases-loop) → let s = c.before.before.before.before in let l = c.before.loop in
+    (c : tie.In-loop-k invariant-loop decreases-loop) → let s = c in let l = c.loop-k in
     Going word_bytes (count_lines s.args.letter.now s.args.base s.args.first s.args.count s.args.words.now)
     (count_line s.args.letter.now l.k (get_or s.args.words.now (s.args.base + l.k) 0)
     ∷ count_lines s.args.letter.now s.args.base (l.k + 1) (s.args.first + s.args.count - (l.k + 1)) s.args.words.now ∷ []) s.args.out.now l.out l.n
 ready c =
-    let s = c.before.before.before.before in
-    let l = c.before.loop in
+    let s = c in
+    let l = c.loop-k in
     parted (count_line s.args.letter.now l.k (get_or s.args.words.now (s.args.base + l.k) 0))
     (count_lines s.args.letter.now s.args.base (l.k + 1) (s.args.first + s.args.count - (l.k + 1)) s.args.words.now)
-    (line_first s.args.letter.now s.args.base s.args.words.now l.k (s.args.first + s.args.count) c.loop-test.true) l.invariant.2
+    (line_first s.args.letter.now s.args.base s.args.words.now l.k (s.args.first + s.args.count) c.loop-k-test.true) l.invariant.2
 
-sub-put-count : tie.Need-overflow-sub-put-count invariant-loop decreases-loop
-sub-put-count c = inside (ready c)
+sub_put_count : tie.Need-slice_bounds-put_count-count invariant-loop decreases-loop
+sub_put_count c = inside (ready c)
 
-part-put-count-start : tie.Need-slice-bounds-put-count-start invariant-loop decreases-loop
-part-put-count-start c = inside (ready c)
+part_put_count_start : tie.Need-slice_bounds-put_count-start invariant-loop decreases-loop
+part_put_count_start c = inside (ready c)
 
-part-put-count-end : tie.Need-slice-bounds-put-count-end invariant-loop decreases-loop
-part-put-count-end c = search rules
+part_put_count_end : tie.Need-slice_bounds-put_count-end invariant-loop decreases-loop
+part_put_count_end c = search rules
 
-add-put-count : tie.Need-overflow-add-put-count invariant-loop decreases-loop
-add-put-count c = search rules
+add_put_count : tie.Need-overflow_add-base invariant-loop decreases-loop
+add_put_count c = search rules
 
-mul-put-count : tie.Need-overflow-mul-put-count invariant-loop decreases-loop
-mul-put-count c = search rules
+mul_put_count : tie.Need-offset_bounds-words-base invariant-loop decreases-loop
+mul_put_count c = search rules
 
-element-copy-out-put-count : tie.Need-element-copy-out-put-count invariant-loop decreases-loop
-element-copy-out-put-count c = search rules
+element_copy_out_put_count : tie.Need-bounds-words-base invariant-loop decreases-loop
+element_copy_out_put_count c = search rules
 
-put-count-requires : tie.Need-put-count-requires invariant-loop decreases-loop
-put-count-requires c κs = fits (ready c.before.before)
+put_count_requires : tie.Need-put_count-n-requires invariant-loop decreases-loop
+put_count_requires c κs = fits (ready c.before.before.before)
 
-add-n : tie.Need-overflow-add-n invariant-loop decreases-loop
-add-n c = ends (ready c.before.before.before.before.before) c.before.before.put_count.ensures
+add_n : tie.Need-overflow_add-n invariant-loop decreases-loop
+add_n c = ends (ready c.before.before.before.before.before.before) c.put_count-n.ensures
 
-add-k : tie.Need-overflow-add-k invariant-loop decreases-loop
-add-k c = search rules
+add_k : tie.Need-overflow_add-k invariant-loop decreases-loop
+add_k c = search rules
 
-loop-less : tie.Need-loop-smaller invariant-loop decreases-loop
-loop-less c = omega arith
+loop_less : tie.Need-loop-k-smaller invariant-loop decreases-loop
+loop_less c = omega arith
 
-loop-again : tie.Need-loop-preserved invariant-loop decreases-loop
-loop-again c = let l = c.before.before.before.before.before.before.loop in (l.invariant.0, omega arith, next (ready c.before.before.before.before.before) c.before.before.put_count.ensures)
+loop_again : tie.Need-loop-k-preserved invariant-loop decreases-loop
+loop_again c = let l = c.loop-k in (l.invariant.0, omega arith, next (ready c.before.before.before.before.before.before) c.put_count-n.ensures)
 
-same_length : tie.Need-same-length invariant-loop decreases-loop
-same_length c = keeps c.before.loop.invariant.2
+same_length : tie.Need-shape_of-out invariant-loop decreases-loop
+same_length c = keeps c.loop-k.invariant.2
 
 returns : tie.Need-returns invariant-loop decreases-loop
-returns c = let l = c.before.loop in let s = c.before.before.before.before in no_more (line_none s.args.letter.now s.args.base s.args.words.now l.k _ c.loop-test.false) l.invariant.2
+returns c = let l = c.loop-k in let s = c in no_more (line_none s.args.letter.now s.args.base s.args.words.now l.k _ c.loop-k-test.false) l.invariant.2
 
-pub put-counts-spec : {M : Type 1} → statement M
-put-counts-spec =
+pub put_counts_spec : {M : Type 1} → statement M
+put_counts_spec =
     tie.close
     (tie.spec
     invariant-loop
     decreases-loop
-    add-end
-    loop-holds
-    sub-put-count
-    part-put-count-start
-    part-put-count-end
-    add-put-count
-    mul-put-count
-    element-copy-out-put-count
-    put-count-requires
-    add-n
-    add-k
-    loop-less
-    loop-again
+    add_end
+    loop_holds
+    sub_put_count
+    part_put_count_start
+    part_put_count_end
+    add_put_count
+    mul_put_count
+    element_copy_out_put_count
+    put_count_requires
+    add_n
+    add_k
+    loop_less
+    loop_again
     same_length
     returns)

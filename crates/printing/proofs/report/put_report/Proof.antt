@@ -4,41 +4,33 @@ use borrow.Author.Rules.{rules}
 use Rattle.printing.proofs.report.put_report.Statement.{statement}
 use Rattle.printing.proofs.report.put_report.Tie as tie
 
-slice-aggregate-put-around : tie.Need-slice-aggregate-put-around
-slice-aggregate-put-around c = search rules
-
-slice-aggregate-put-around-2 : tie.Need-slice-aggregate-put-around-2
-slice-aggregate-put-around-2 c = search rules
-
-put-around-requires : tie.Need-put-around-requires
+put_around_requires : tie.Need-put_around-requires
 unfolding ascii
-put-around-requires c κs = let s = c.before.before.before.before.before in rw (report_refused s.args.number s.args.words.now c.before.before.before.if1.true) at s.requires
+put_around_requires c κs = let s = c in rw (report_refused s.args.number s.args.words.now c.if-number-ne0.true) at s.requires
 
-same_length : tie.Need-same-length
+same_length : tie.Need-shape_of-out-then-number-ne0
 same_length c = search rules
 
-returns : tie.Need-returns
+returns : tie.Need-returns-then-number-ne0
 unfolding ascii
-returns c = let s = c.before.before.before.before.before.before.before.before in rw (report_refused s.args.number s.args.words.now c.before.before.before.before.before.before.if1.true) c.before.before.put-around.ensures
+returns c = let s = c in rw (report_refused s.args.number s.args.words.now c.if-number-ne0.true) c.put_around.ensures
 
-put-sheet-requires : tie.Need-put-sheet-requires
-put-sheet-requires c κs = let s = c.before.before.before in rw (report_sheet s.args.number s.args.words.now c.before.if1.false) at s.requires
+put_sheet_requires : tie.Need-put_sheet-requires
+put_sheet_requires c κs = let s = c in rw (report_sheet s.args.number s.args.words.now c.if-number-ne0.false) at s.requires
 
-same-length-2 : tie.Need-same-length-2
-same-length-2 c = search rules
+same_length_2 : tie.Need-shape_of-out
+same_length_2 c = search rules
 
-returns-2 : tie.Need-returns-2
-returns-2 c = let s = c.before.before.before.before.before.before in rw (report_sheet s.args.number s.args.words.now c.before.before.before.before.if1.false) c.before.before.put-sheet.ensures
+returns_2 : tie.Need-returns
+returns_2 c = let s = c in rw (report_sheet s.args.number s.args.words.now c.if-number-ne0.false) c.put_sheet.ensures
 
-pub put-report-spec : {M : Type 1} → statement M
-put-report-spec =
+pub put_report_spec : {M : Type 1} → statement M
+put_report_spec =
     tie.close
     (tie.spec
-    slice-aggregate-put-around
-    slice-aggregate-put-around-2
-    put-around-requires
+    put_around_requires
     same_length
     returns
-    put-sheet-requires
-    same-length-2
-    returns-2)
+    put_sheet_requires
+    same_length_2
+    returns_2)
