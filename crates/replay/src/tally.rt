@@ -43,10 +43,8 @@ pub(crate) fn replay_all(
         calls: calls,
         differences: 0,
     };
-    let mut number = 0;
-    while number < cases {
+    for number in 0..cases {
         seen = replay_one(rt, list, seen, number)?;
-        number += 1;
     }
     Ok(seen)
 }

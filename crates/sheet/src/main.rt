@@ -2,98 +2,107 @@
 // anything is printed, in blocks, so that it may be larger than memory.
 #![tactic(auto)]
 
-ghost use Rattle.std.specs.Prelude.{◌≤◌, length};
+ghost use Rattle.std.specs.Prelude.{◌≡◌, ◌≤◌, IfOk, OnErr, length};
 ghost use Rattle.totals.specs.Sheets.{most_log_bytes};
 ghost use Rattle.filing.specs.Feeds.{Ready};
 
 use filing::Feed;
-use libc::STDOUT_FILENO;
+use std::env::{Env, FillError};
+use std::fs::File;
+use std::io;
+use std::io::{Read, Write};
 use totals::WORDS;
 
-// The feed after a block; whether there may be more; whether reading failed.
+// The feed after a block; whether there may be more.
 #[derive(Clone, Copy)]
 struct Turn {
     feed: Feed,
     more: bool,
-    failed: bool,
 }
 
 // One block more. No contract can say what is read: what is kept is that the feed stays ready.
 fn take_block(
-    fd: i32,
+    file: &mut File,
     f: Feed,
     words: &mut [u64; WORDS],
     carry: &mut [u8],
     block: &mut [u8],
-) -> Turn
+) -> io::Result<Turn>
     requires { Ready f carry.old }
-    ensures { Ready result.feed carry.new }
+    ensures ok { IfOk result (λ t. Ready t.feed carry.new) }
+    ensures err { OnErr result (carry.new ≡ carry.old) }
 {
-    let got = libc::read(fd, block);
-    let n = io::count(got, block);
-    let g = filing::feed_block(f, words, carry, &block[..n]);
-    Turn {
-        feed: g,
-        more: 0 < got,
-        failed: got < 0,
-    }
+    let n = file.read(block)?;
+    let feed = filing::feed_block(f, words, carry, &block[..n]);
+    Ok(Turn {
+        feed: feed,
+        more: 0 < n,
+    })
 }
 
 // All of them: no run uses the turns up.
-fn take_all(fd: i32, words: &mut [u64; WORDS], carry: &mut [u8], block: &mut [u8]) -> Turn
+fn take_all(
+    file: &mut File,
+    words: &mut [u64; WORDS],
+    carry: &mut [u8],
+    block: &mut [u8],
+) -> io::Result<Feed>
     requires { most_log_bytes ≤ length carry.old }
 {
     let mut f = filing::begin();
-    let mut turns = u64::MAX;
-    while 0 < turns {
-        let t = take_block(fd, f, words, carry, block);
+    for _ in 0..u64::MAX {
+        let t = take_block(file, f, words, carry, block)?;
         f = t.feed;
         if !t.more {
-            return t;
+            return Ok(f);
         }
-        turns = turns - 1;
     }
-    Turn {
-        feed: f,
-        more: false,
-        failed: true,
-    }
+    Err(io::Error::other("no end"))
 }
 
-fn print(f: Feed, words: &[u64; WORDS]) -> bool {
+// The longest sheet has room. The `ensures` here and below spare their callers a look at each byte.
+fn room_for_report() -> [u8; 4096]
+    ensures { 4096 ≡ length result }
+{
+    [0; 4096]
+}
+
+fn print(rt: &impl Print, f: Feed, words: &[u64; WORDS]) -> io::Result<()> {
     let number = filing::end_number(f);
-    let mut out = io::buffer();
+    let mut out = room_for_report();
     let n = printing::put_report(&mut out, number, words);
-    io::write_all(STDOUT_FILENO, &out[..n])
+    io::writer(rt).write_all(&out[..n])
 }
 
-// Whether the file was read and the sheet printed.
-fn print_file(fd: i32) -> bool {
+// The longest log has room.
+fn room_for_block() -> [u8; 65536]
+    ensures { 65536 ≡ length result }
+{
+    [0; 65536]
+}
+
+// Reads the file and prints the sheet.
+fn print_file(rt: &HostRuntime, path: &str) -> io::Result<()> {
+    let mut file = File::open(rt, path)?;
     let mut words = [0u64; WORDS];
-    let mut carry = io::large_buffer();
-    let mut block = io::large_buffer();
-    let t = take_all(fd, &mut words, &mut carry, &mut block);
-    if t.failed {
-        return false;
-    }
-    let f = t.feed;
-    print(f, &words)
+    let mut carry = room_for_block();
+    let mut block = room_for_block();
+    let f = take_all(&mut file, &mut words, &mut carry, &mut block)?;
+    print(rt, f, &words)
 }
 
-fn main() {
-    let mut path = io::buffer();
-    let length = os::arg(1, &mut path);
-    if os::errno() != 0 {
-        os::fail(b"sheet");
-        return;
+fn main(rt: HostRuntime) -> io::Result<()> {
+    let mut room = [0u8; 4096];
+    let n = match rt.arg(1, &mut room) {
+        Ok(n) => n,
+        Err(FillError::NotPresent) => return eprintln!(rt; "sheet: Invalid argument"),
+        Err(FillError::TooLong) => return eprintln!(rt; "sheet: File name too long"),
+    };
+    let Ok(path) = str::from_utf8(&room[..n]) else {
+        return eprintln!(rt; "sheet: the file's name is not UTF-8");
+    };
+    if let Err(error) = print_file(&rt, path) {
+        return eprintln!(rt; "{path}: {error}");
     }
-    let fd = os::open_read(&path[..length]);
-    if fd < 0 {
-        os::fail(&path[..length]);
-        return;
-    }
-    if !print_file(fd) {
-        os::fail(&path[..length]);
-    }
-    libc::close(fd);
+    Ok(())
 }

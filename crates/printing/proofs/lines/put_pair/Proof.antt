@@ -3,7 +3,7 @@ use Prim.Native.Nat.{◌+◌}
 use mathlib.Core.List.{[], ◌∷◌}
 use borrow.Author.Rules.{rules}
 use Rattle.laws.proofs.Lending.{back, Going, first, next, inside, fits, fits_first, ends, whole}
-use Rattle.decimal.specs.Words.{letters, word_bytes}
+use Rattle.decimal.specs.Words.{word_bytes}
 use Rattle.printing.specs.Ascii.{ascii}
 use Rattle.printing.specs.Texts.{around, pair_line}
 use Rattle.printing.proofs.lines.put_pair.Statement.{statement}
