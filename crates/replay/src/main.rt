@@ -37,14 +37,7 @@ fn main(rt: HostRuntime) -> io::Result<()> {
 fn room_for_list() -> [u8; 600000]
     ensures { 600000 ≡ length result }
 {
-    zeros()
-}
-
-// Over any N, so that no proof looks at each byte either.
-fn zeros<const N: usize>() -> [u8; N]
-    ensures { N ≡ length result }
-{
-    [0; N]
+    [0; 600000]
 }
 
 // Reads until the file ends or the room is full, and answers how many bytes stand at its front.
