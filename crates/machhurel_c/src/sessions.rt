@@ -1,7 +1,7 @@
 // The C interface of a log session: a C caller keeps it as three words, and lends the buffer. Any words at all get an answer.
 ghost use Rattle.std.specs.Prelude.{◌≡◌};
 ghost use Rattle.session.specs.Sessions.{appended};
-ghost use Rattle.session.specs.Words.{session_in, words_of, in_words, empty_words};
+ghost use Rattle.session.specs.Words.{session_in, in_words, empty_words};
 
 #[unsafe(no_mangle)]
 pub extern "C" fn machhurel_append(
