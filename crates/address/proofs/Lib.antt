@@ -1,3 +1,4 @@
 pub mod Halves
 pub mod Sums
 pub mod NoPlace
+pub mod Signs

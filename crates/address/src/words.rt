@@ -13,6 +13,7 @@ pub fn times(a: u64, scale: u8) -> u64
 }
 
 // The low 32 bits, sign-extended.
+#[tactic(auto, using(crate::proofs::Signs::signed_low, crate::proofs::Signs::signed_high))]
 pub fn sign_extended(disp: u64) -> u64
     ensures { result ≡ signed32 disp }
 {

@@ -1,11 +1,12 @@
 -- What a setter leaves of each reader, and which answers are refusals. Assumes nothing.
-use Prim.Native.Nat.{ℕ, ◌+◌, ◌*◌, ◌/◌, ◌%◌, ◌^◌, ◌≤◌, ◌<◌}
+use Prim.Native.Nat.{ℕ, ◌+◌, ◌*◌, ◌/◌, ◌%◌, ◌^◌, ◌≤◌, ◌<◌, zero-le}
 use native.Mathlib.Nat.{div-eq_of_lt, lt_of_lt_of_le, pow-le-pow_right}
 use native.Mathlib.Omega.{arith}
-use mathlib.Core.Path.{◌≡◌, refl, ap, ◌∙◌}
+use mathlib.Core.Path.{◌≡◌, refl, sym, ap, ◌∙◌}
 use lib.Dec.{lit≤}
 use borrow.Author.Tests.{lt-ltb, le-ltb}
 use Rattle.access.specs.Accesses.{access_number, access_of}
+use Rattle.laws.proofs.Span.{span}
 use Rattle.access.specs.declared.Access.{Access}
 use Rattle.access.proofs.Laws.{access_number_lem}
 use Rattle.access.specs.Fields.{field_at, with_field}
@@ -41,6 +42,13 @@ module _ {a : Access} (d : BehaviorDigest) where
 pub access_none : (d : BehaviorDigest) (i : ℕ) → d.operands < 256 → 3 < i → access_at d i ≡ 0
 access_none d i b h =
     ap (λ (n : ℕ). n % 4) (div-eq_of_lt (lt_of_lt_of_le b (pow-le-pow_right {n = 4} (lit≤ tt) h)))
+
+pub no_access : (d : BehaviorDigest) (i : ℕ) → d.operands < 256 → 3 < i → Access.None ≡ access_of (access_at d i)
+no_access d i b h = sym (ap access_of (access_none d i b h))
+
+-- a shift by twice the operand
+pub access_shifted : (d : BehaviorDigest) (i : ℕ) {a : Access} → i ≤ 3 → a ≡ access_of (d.operands / 2 ^ (i * 2) % 4) → a ≡ access_of (access_at d i)
+access_shifted d i h e = e ∙ ap (λ (n : ℕ). access_of (d.operands / n % 4)) (span (λ (k : ℕ). 2 ^ (k * 2) ≡ 4 ^ k) 0 4 (refl, (refl, (refl, (refl, tt)))) i zero-le (omega arith))
 
 -- the lowest field, and the highest of a byte
 pub lowest : (x v : ℕ) → x / 4 * 4 + v ≡ with_field x 1 4 v

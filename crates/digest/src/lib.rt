@@ -123,6 +123,7 @@ impl BehaviorDigest {
     }
 
     // No access for an operand above 3: there is none.
+    #[tactic(auto, using(crate::proofs::Laws::no_access, crate::proofs::Laws::access_shifted))]
     pub fn operand_access(self, operand: u8) -> Access
         ensures { result ≡ access_of (access_at self operand) }
     {
@@ -133,6 +134,7 @@ impl BehaviorDigest {
     }
 
     // A list above 28 is refused 2.
+    #[tactic(auto, using(crate::proofs::Laws::list_taken, crate::proofs::Laws::list_refused), unfolding(crate::specs::Digests::with_list))]
     pub fn set_implicit_ops(mut self, list: u16) -> DigestAnswer
         ensures { result ≡ list_answer list self }
     {

@@ -7,3 +7,4 @@ pub mod Joined
 pub mod Cuts
 pub mod Bytes
 pub mod ByWay
+pub mod Bodies

@@ -43,6 +43,7 @@ pub fn read_front(log: &[u8]) -> Reading
     }
 }
 
+#[tactic(auto, using(crate::proofs::Bodies::register_body, crate::proofs::Bodies::memory_body, crate::proofs::Bodies::unknown_body, crate::proofs::Bodies::no_body, crate::proofs::Bodies::past_bodies))]
 fn body_of(kind: u8) -> usize
     ensures { result ≡ body_of kind }
 {

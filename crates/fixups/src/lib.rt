@@ -15,6 +15,7 @@ mod memory;
 mod rules;
 
 // The digest after fix-ups, which happen only where nontrivial is set.
+#[tactic(auto, using(crate::proofs::Narrow::with_fixups, crate::proofs::Narrow::without_fixups))]
 pub fn digest_of(x: Record) -> BehaviorDigest
     ensures { result ≡ digest_of x }
 {

@@ -1,10 +1,11 @@
 -- Which specs are memory, by their numbers. Assumes nothing.
-use Prim.Native.Nat.{ℕ, zero, suc}
+use Prim.Native.Nat.{ℕ, ◌≤◌, ◌<◌, zero, suc}
 use mathlib.Core.Path.{◌≡◌, refl, sym, ap, ◌∙◌}
 use mathlib.Core.Bool.{Bool, false, ◌&&◌, and_comm}
 use mathlib.Core.List.{List, map}
 use lib.Dec.{ltb, leb, leb-zero, leb-suc-zero, leb-suc-suc}
 use lib.ListN.{get_or, get_or-map}
+use borrow.Author.Tests.{le-leb, lt-leb}
 use Rattle.implicit.proofs.Table.{firsts}
 use Rattle.definition.specs.declared.Shape.TheVariants.{Nothing}
 use Rattle.definition.specs.Tables.{shapes, shape_of}
@@ -29,3 +30,9 @@ memory_spec s =
     ∙ firsts_test 36 (leb 18) s
     ∙ and_comm (ltb s 36) (leb 18 s)
     ∙ ap (λ (t : Bool). leb 18 s && t) (leb-suc-suc s 35)
+
+pub memory_from : (s : ℕ) → 18 ≤ s → leb s 35 ≡ is_memory (shape_of s)
+memory_from s h = sym (memory_spec s ∙ rw (le-leb 18 s h))
+
+pub memory_below : (s : ℕ) → s < 18 → false ≡ is_memory (shape_of s)
+memory_below s h = sym (memory_spec s ∙ rw (lt-leb 18 s h))

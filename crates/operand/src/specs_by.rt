@@ -6,6 +6,7 @@ ghost use Rattle.definition.specs.Tables.{shape_of, string_specs};
 ghost use Rattle.operand.specs.Bases.{takes_base};
 
 // Memory, whatever its address is made of.
+#[tactic(auto, using(crate::proofs::Shapes::memory_from, crate::proofs::Shapes::memory_below))]
 pub fn is_memory(spec: u8) -> bool
     ensures { result ≡ is_memory (shape_of spec) }
 {

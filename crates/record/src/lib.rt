@@ -276,6 +276,7 @@ fn has_bad_list(b: &[u8]) -> bool
     b[0] != EVERYDAY_KIND && 28 < laws::u16_at(b, 38)
 }
 
+#[tactic(auto, using(crate::proofs::Specs::first_bad, crate::proofs::Specs::second_bad, crate::proofs::Specs::third_bad, crate::proofs::Specs::last_bad))]
 fn has_bad_spec(b: &[u8]) -> bool
     requires { everyday_bytes ≤ length b.now }
     ensures { result ≡ any (λ s. ltb 35 s) (record_of b.now).specs }

@@ -1,16 +1,21 @@
 -- Which specs may name no register. Assumes nothing.
-use Prim.Native.Nat.{ℕ, zero, suc, ◌<◌}
+use Prim.Native.Nat.{ℕ, ◌%◌, ◌≤◌, ◌<◌, zero, suc}
 use native.Mathlib.Omega.{arith}
 use native.Mathlib.Nat.{le_of_suc-le-suc}
 use mathlib.Core.Path.{◌≡◌, refl, sym, ap, ◌∙◌}
-use mathlib.Core.Bool.{Bool, true, false, ◌&&◌, ◌||◌, or-true}
+use mathlib.Core.Bool.{Bool, true, false, not, ◌&&◌, ◌||◌, or-true}
+use mathlib.Core.List.{[], ◌∷◌}
 use lib.ListN.{get_or-eq_default}
 use lib.Dec.{ltb, eqb}
-use borrow.Author.Tests.{ltb-true, ltb-false, lt-ltb}
+use borrow.Author.Tests.{ltb-true, ltb-false, lt-ltb, le-ltb, eq-eqb, ne_eqb}
 use Rattle.implicit.proofs.Table.{firsts}
+use Rattle.laws.specs.Tests.{is_in}
+use Rattle.registers.specs.Banks.{is_register}
 use Rattle.record.specs.declared.Record.{Record}
+use Rattle.record.specs.Records.{reg_at}
 use Rattle.definition.specs.Tables.{shapes, shape_of}
-use Rattle.definition.specs.Refusals.{unnamed}
+use Rattle.definition.specs.Refusals.{unnamed, sizeless, accessed}
+use Rattle.definition.specs.Behaviors.{is_memory}
 use Rattle.definition.specs.declared.Shape.TheVariants.{Nothing, Fourth}
 
 -- two tests that agree on the first n numbers, which antt computes
@@ -31,3 +36,29 @@ unnamed_is x s = by (ltb 35 s) refl
     by false e =
         let h = ltb-false 35 s e in
         agree 36 (λ s. unnamed x (shape_of s)) (λ s. eqb s 0 || ltb 35 s || (eqb s 4 && unnamed x Fourth)) refl s (omega arith)
+
+-- Reg4, a spec that names, and one past the table
+module _ (x : Record) (s : ℕ) where
+  pub fourth_unnamed : {t : Bool} → s ≡ 4 → t ≡ is_register (reg_at x 3).bank (x.imm % 256) → not t ≡ unnamed x (shape_of s)
+  unfolding unnamed
+  fourth_unnamed {t} e h = rw (unnamed_is x s, e, h)
+
+  pub spec_named : 1 ≤ s → s ≤ 35 → (s ≡ 4 → ⊥) → false ≡ unnamed x (shape_of s)
+  spec_named h g ne = rw (unnamed_is x s, ne_eqb s 0 (omega arith), le-ltb 35 s g, ne_eqb s 4 ne)
+
+  pub no_spec : s < 1 → true ≡ unnamed x (shape_of s)
+  no_spec h = rw (unnamed_is x s, eq-eqb s 0 (omega arith))
+
+  pub past_specs : 36 ≤ s → true ≡ unnamed x (shape_of s)
+  past_specs h = rw (unnamed_is x s, ne_eqb s 0 (omega arith), lt-ltb 35 s h)
+
+-- refusal 6: a size of 0 where one is needed
+module _ (x : Record) where
+  pub has_size : (x.size ≡ 0 → ⊥) → false ≡ sizeless x
+  unfolding sizeless
+  has_size ne = rw (ne_eqb _ _ ne)
+
+  pub no_size :
+      {m n : Bool} → x.size ≡ 0 → m ≡ accessed is_memory x → n ≡ is_in x.digest.extra (15 ∷ 16 ∷ 26 ∷ 27 ∷ 28 ∷ []) → (m || n) ≡ sizeless x
+  unfolding sizeless
+  no_size e f g = rw (eq-eqb _ _ e, f, g)

@@ -33,6 +33,7 @@ pub fn is_nameless(x: Record) -> bool
 }
 
 // LEA has no rule of its own here.
+#[tactic(auto, using(crate::proofs::Shapes::has_size, crate::proofs::Shapes::no_size))]
 pub fn is_sizeless(x: Record) -> bool
     ensures { result ≡ sizeless x }
 {

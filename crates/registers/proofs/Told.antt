@@ -184,6 +184,10 @@ module _ (f : RegisterFile) where
   unfolding value_of part_of is_logged
   whole_told n {s} {v} h e w k = rw (lt-ltb n 16 h, e) (sym (slot_part n 0 64 v (omega arith) (rw (← w) (whole_part 64 v k))))
 
+  pub whole_known :
+      (n : ℕ) {s : Bool} {v : ℕ} {r : Value} → r ≡ cond s (Known v) Unknown → n < 16 → s ≡ bit f.known n → v ≡ get_or f.values n 0 → v < 2 ^ 64 → r ≡ value_of f (reg 0 n)
+  whole_known n e h s w k = e ∙ whole_told n h s w k
+
   pub whole_untold : (n : ℕ) → 16 ≤ n → Unknown ≡ value_of f (reg 0 n)
   unfolding value_of part_of is_logged
   whole_untold n h = rw (le-ltb n 16 h) (sym no_part)

@@ -5,7 +5,7 @@ use Rattle.registers.specs.declared.RegSpec.{RegSpec}
 abbrev pub reg : ℕ → ℕ → RegSpec
 reg b n = record { bank = b; number = n }
 
--- by bank, what a record may name: Q D W r_b B X Y Z K RIP EIP RFLAGS other
+-- by bank, what a record may name: Q D W rB B X Y Z K RIP EIP RFLAGS other
 abbrev pub bank_numbers : List ℕ
 bank_numbers = 16 ∷ 16 ∷ 16 ∷ 16 ∷ 8 ∷ 32 ∷ 32 ∷ 32 ∷ 8 ∷ 1 ∷ 1 ∷ 1 ∷ 32 ∷ []
 

@@ -81,7 +81,7 @@ part s b w = record { slot = s; below = b; bits = w }
 abbrev pub nowhere : Part
 nowhere = part file_slots 0 0
 
--- by bank, of register n: Q whole, D the low 32 bits, W the low 16, r_b and B 0-3 the low 8, B 4-7 bits 8-15 of register number minus 4;
+-- by bank, of register n: Q whole, D the low 32 bits, W the low 16, rB and B 0-3 the low 8, B 4-7 bits 8-15 of register number minus 4;
 -- RIP, and EIP its low 32 bits; the bases of fs and gs
 abbrev pub bank_parts : ℕ → List Part
 bank_parts n =

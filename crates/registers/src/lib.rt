@@ -108,7 +108,7 @@ fn bank_numbers(bank: u8) -> u8
         0 => 16, // Q
         1 => 16, // D
         2 => 16, // W
-        3 => 16, // r_b
+        3 => 16, // rB
         4 => 8, // B
         5 => 32, // X
         6 => 32, // Y
@@ -298,6 +298,7 @@ fn value_in(values: &[u64; FILE_SLOTS], known: u32, x: RegSpec) -> Value
 }
 
 // A general register.
+#[tactic(auto, using(crate::proofs::Told::whole_known, crate::proofs::Told::whole_untold))]
 fn whole(values: &[u64; FILE_SLOTS], known: u32, number: u8) -> Value
     ensures { result ≡ value_of (file_with values.now known) (reg 0 number) }
 {

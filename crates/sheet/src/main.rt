@@ -30,7 +30,7 @@ fn take_block(
 ) -> io::Result<Turn>
     requires { Ready f carry.old }
     ensures ok { IfOk result (λ t. Ready t.feed carry.new) }
-    ensures err { OnErr result (carry.new ≡ carry.old) }
+    ensures err { OnErr result ((words.new ≡ words.old) × (carry.new ≡ carry.old)) }
 {
     let n = file.read(block)?;
     let feed = filing::feed_block(f, words, carry, &block[..n]);
