@@ -1,5 +1,5 @@
-// Number, sign and part in one struct. The borrow checker covers no function over a struct that holds a reference: the
-// two here are proved by hand, so they leave all work to covered functions.
+// Number, sign and part in one struct, which holds a reference: a thin last layer that leaves all work to the functions
+// below it.
 ghost use Rattle.std.specs.Prelude.{◌≡◌};
 ghost use Rattle.difference.specs.Partings.{parted_of, parting_of};
 
