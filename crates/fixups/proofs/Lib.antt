@@ -1,3 +1,5 @@
 pub mod Opcodes
 pub mod Answers
 pub mod Narrow
+pub mod Complex
+pub mod Insertq

@@ -57,6 +57,7 @@ pub fn fixed_up(mut x: Record) -> Record
 }
 
 // Whether a record, after fix-ups, is of an instruction that its operands do not describe.
+#[tactic(auto, using(crate::proofs::Complex::without_bit, crate::proofs::Complex::with_bit_tests, crate::proofs::Complex::with_bit_below, crate::proofs::Complex::with_bit_above))]
 pub fn is_complex(x: Record) -> bool
     ensures { result ≡ complex x }
 {

@@ -149,6 +149,7 @@ fn fix_extrq(x: Record) -> BehaviorDigest
     }
 }
 
+#[tactic(auto, using(crate::proofs::Insertq::insertq_reads, crate::proofs::Insertq::insertq_stays))]
 fn fix_insertq(x: Record) -> BehaviorDigest
     ensures { result ≡ fix_up insertq x x.digest }
 {

@@ -14,6 +14,7 @@ use operand::{apply_x86_zext, segment_register};
 use registers::RegSpec;
 
 // Mask 0 is never logged.
+#[tactic(auto, using(crate::proofs::Masks::silent_count, crate::proofs::Masks::silent_bytes, crate::proofs::Masks::mask_fits, crate::proofs::Masks::logged_count, crate::proofs::Masks::logged_bytes))]
 pub fn put_mask(log: &mut [u8], mask: u8) -> usize
     requires { size event_bytes (moved Read (mask_registers mask)) ≤ length log.old }
     ensures { Logged event_bytes (moved Read (mask_registers mask)) log.old log.new result }
