@@ -65,3 +65,10 @@ fn wide(b: u8) -> u16
 {
     b as u16
 }
+
+// So many bytes, all of them 0. The `ensures` spares a caller a look at each of them.
+pub fn zeros<const N: usize>() -> [u8; N]
+    ensures { N ≡ length result }
+{
+    [0; N]
+}

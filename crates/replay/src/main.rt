@@ -37,7 +37,7 @@ fn main(rt: HostRuntime) -> io::Result<()> {
 fn room_for_list() -> [u8; 600000]
     ensures { 600000 ≡ length result }
 {
-    [0; 600000]
+    laws::zeros()
 }
 
 // Reads until the file ends or the room is full, and answers how many bytes stand at its front.

@@ -13,6 +13,11 @@ use std::io;
 use std::io::{Read, Write};
 use totals::WORDS;
 
+// The longest sheet has room in the first, and the longest log in the second.
+const REPORT_BYTES: usize = 4096;
+
+const BLOCK_BYTES: usize = 65536;
+
 // The feed after a block; whether there may be more.
 #[derive(Clone, Copy)]
 struct Turn {
@@ -60,33 +65,19 @@ fn take_all(
     Err(io::Error::other("no end"))
 }
 
-// The longest sheet has room. The `ensures` here and below spare their callers a look at each byte.
-fn room_for_report() -> [u8; 4096]
-    ensures { 4096 ≡ length result }
-{
-    [0; 4096]
-}
-
 fn print(rt: &impl Print, f: Feed, words: &[u64; WORDS]) -> io::Result<()> {
     let number = filing::end_number(f);
-    let mut out = room_for_report();
+    let mut out = laws::zeros::<REPORT_BYTES>();
     let n = printing::put_report(&mut out, number, words);
     io::writer(rt).write_all(&out[..n])
-}
-
-// The longest log has room.
-fn room_for_block() -> [u8; 65536]
-    ensures { 65536 ≡ length result }
-{
-    [0; 65536]
 }
 
 // Reads the file and prints the sheet.
 fn print_file(rt: &HostRuntime, path: &str) -> io::Result<()> {
     let mut file = File::open(rt, path)?;
     let mut words = [0u64; WORDS];
-    let mut carry = room_for_block();
-    let mut block = room_for_block();
+    let mut carry = laws::zeros::<BLOCK_BYTES>();
+    let mut block = laws::zeros::<BLOCK_BYTES>();
     let f = take_all(&mut file, &mut words, &mut carry, &mut block)?;
     print(rt, f, &words)
 }

@@ -17,8 +17,7 @@ from_bytes_requires c κs = search rules
 returns : tie.Need-returns-then-answer-ne0
 unfolding digest_call
 returns c =
-    let s = c in
-    when_refused s.args.b.now s.from_bytes-answer.result s.from_bytes-answer.ensures read Refused c.if-answer-ne0.true
+    when_refused c.args.b.now c.from_bytes-answer.result c.from_bytes-answer.ensures read Refused c.if-answer-ne0.true
 
 digest_of_requires : tie.Need-digest_of-requires
 digest_of_requires c κs = search rules
@@ -26,9 +25,8 @@ digest_of_requires c κs = search rules
 returns_2 : tie.Need-returns
 unfolding digest_call
 returns_2 c =
-    let s = c in
     rw c.digest_of.ensures
-    (when_read s.args.b.now s.from_bytes-answer.result s.from_bytes-answer.ensures read Refused c.if-answer-ne0.false)
+    (when_read c.args.b.now c.from_bytes-answer.result c.from_bytes-answer.ensures read Refused c.if-answer-ne0.false)
 
 pub digest_answer_spec : {M : Type 1} → statement M
 digest_answer_spec =

@@ -18,8 +18,7 @@ from_bytes_requires c κs = search rules
 returns : tie.Need-returns-then-answer-ne0
 unfolding exceptions_call
 returns c =
-    let s = c in
-    when_refused s.args.b.now s.from_bytes-answer.result s.from_bytes-answer.ensures read Refused c.if-answer-ne0.true
+    when_refused c.args.b.now c.from_bytes-answer.result c.from_bytes-answer.ensures read Refused c.if-answer-ne0.true
 
 fixed_up_requires : tie.Need-fixed_up-requires
 fixed_up_requires c κs = search rules
@@ -30,9 +29,8 @@ exceptions_of_requires c κs = search rules
 returns_2 : tie.Need-returns
 unfolding exceptions_call
 returns_2 c =
-    let s = c in
     rw (c.exceptions_of.ensures, c.fixed_up.ensures)
-    (when_read s.args.b.now s.from_bytes-answer.result s.from_bytes-answer.ensures read Refused c.if-answer-ne0.false)
+    (when_read c.args.b.now c.from_bytes-answer.result c.from_bytes-answer.ensures read Refused c.if-answer-ne0.false)
 
 pub exceptions_answer_spec : {M : Type 1} → statement M
 exceptions_answer_spec =

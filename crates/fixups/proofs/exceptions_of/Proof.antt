@@ -27,9 +27,8 @@ with_requires c κs = search rules
 returns : tie.Need-returns
 unfolding exceptions_of set_of
 returns c =
-    let s = c in
-    let x = s.args.x in
-    rw (c.with.ensures, s.set.ensures, s.empty.ensures, s.may_protect.ensures, c.may_fault.ensures)
+    let x = c.args.x in
+    rw (c.with.ensures, c.set.ensures, c.empty.ensures, c.may_protect.ensures, c.may_fault.ensures)
     (ap (λ (v : ℕ). Done (info_of v)) (two_vectors (may_protect x) (may_fault x)))
 
 pub exceptions_of_spec : {M : Type 1} → statement M

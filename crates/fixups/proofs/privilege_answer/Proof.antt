@@ -19,8 +19,7 @@ from_bytes_requires c κs = search rules
 returns : tie.Need-returns-then-answer-ne0
 unfolding privilege_call
 returns c =
-    let s = c in
-    when_refused s.args.b.now s.from_bytes-answer.result s.from_bytes-answer.ensures read Refused c.if-answer-ne0.true
+    when_refused c.args.b.now c.from_bytes-answer.result c.from_bytes-answer.ensures read Refused c.if-answer-ne0.true
 
 digest_of_requires : tie.Need-digest_of-requires
 digest_of_requires c κs = search rules
@@ -31,9 +30,8 @@ privilege_level_requires c κs = search rules
 returns_2 : tie.Need-returns
 unfolding privilege_call
 returns_2 c =
-    let s = c in
     rw (c.privilege_level.ensures, c.digest_of.ensures)
-    (when_read s.args.b.now s.from_bytes-answer.result s.from_bytes-answer.ensures read Refused c.if-answer-ne0.false)
+    (when_read c.args.b.now c.from_bytes-answer.result c.from_bytes-answer.ensures read Refused c.if-answer-ne0.false)
 
 pub privilege_answer_spec : {M : Type 1} → statement M
 privilege_answer_spec =

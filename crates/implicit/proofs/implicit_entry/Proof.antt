@@ -34,8 +34,7 @@ entry_of_requires c κs = search rules
 returns_2 : tie.Need-returns
 unfolding code_in
 returns_2 c =
-    let s = c in
-    c.entry_of.ensures ∙ rw c.row_of.ensures (rows_right s.args.list s.args.i (search rules))
+    c.entry_of.ensures ∙ rw c.row_of.ensures (rows_right c.args.list c.args.i (search rules))
 
 pub implicit_entry_spec : {M : Type 1} → statement M
 implicit_entry_spec =

@@ -34,10 +34,9 @@ same_length c = search rules
 
 returns : tie.Need-returns
 returns c =
-    let s = c in
-    let v = s.args.v in
+    let v = c.args.v in
     rw (← little_pair 4 v)
-    (laid (little 4 (v % 256 ^ 4)) (little 4 (v / 256 ^ 4)) s.args.out.now 4 (little_length 4 (v % 256 ^ 4))
+    (laid (little 4 (v % 256 ^ 4)) (little 4 (v / 256 ^ 4)) c.args.out.now 4 (little_length 4 (v % 256 ^ 4))
     c.put_u32.ensures c.put_u32-2.ensures)
 
 pub put_u64_spec : {M : Type 1} → statement M

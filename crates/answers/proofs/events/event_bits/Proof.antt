@@ -18,9 +18,7 @@ ahead :
     let at = c.args.at in
     let next = c.in-Found.next in (at < next) × (next - at ≤ 10)
 ahead c =
-    let s = c in
-    let t = s in
-    let l = leads_on t.args.log.now t.args.at (sym s.read_event-found.ensures ∙ c.in-Found.is) in
+    let l = leads_on c.args.log.now c.args.at (sym c.read_event-found.ensures ∙ c.in-Found.is) in
     (l.0, l.1.0)
 
 sub_result : tie.Need-overflow_sub-result

@@ -36,7 +36,7 @@ loop_holds c = (zero-le, le_refl _, refl, refl, rw (from_first c.args.each c.arg
 whole :
     (c : tie.In-loop-i invariant-loop decreases-loop)
     → c.loop-i.i * c.args.each + c.args.each ≤ length c.args.records.now
-whole c = let s = c in inside c.loop-i.i (listed (length s.args.records.now) s.args.each s.requires.0) c.loop-i-test.true
+whole c = inside c.loop-i.i (listed (length c.args.records.now) c.args.each c.requires.0) c.loop-i-test.true
 
 mul_from : tie.Need-overflow_mul-from invariant-loop decreases-loop
 mul_from c = record { fits = omega (arith, whole c) }
@@ -74,16 +74,15 @@ visit :
     (c.visit_accesses-a.result, c.visit_accesses-a.new.log) ≡ visit_under (cut_at x.each x.records.now (file_of x.file.now) x.start l.i) (file_of x.file.now) l.log l.place
 visit c =
     let l = c.loop-i in
-    let s = c in
-    let x = s.args in
+    let x = c.args in
     c.visit_accesses-a.ensures
-    ∙ sym (good_file (cut_at x.each x.records.now (file_of x.file.now) x.start l.i) l.log l.place {f = file_of x.file.now} x.file.now refl s.requires.2 refl)
+    ∙ sym (good_file (cut_at x.each x.records.now (file_of x.file.now) x.start l.i) l.log l.place {f = file_of x.file.now} x.file.now refl c.requires.2 refl)
 
 put_answer_requires : tie.Need-put_answer-requires invariant-loop decreases-loop
 put_answer_requires c κs =
     let l = c.loop-i in
-    let s = c in (
-      omega (arith, part_length l.answers (answer_bytes * l.i), l.invariant.3, s.requires.1, c.loop-i-test.true),
+    (
+      omega (arith, part_length l.answers (answer_bytes * l.i), l.invariant.3, c.requires.1, c.loop-i-test.true),
       count_byte _ _ _ _ (visit c.before.before.before),
     )
 

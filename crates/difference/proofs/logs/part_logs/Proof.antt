@@ -19,9 +19,7 @@ refused_requires c κs = search rules
 
 returns : tie.Need-returns-in_default
 returns c =
-    let r = c in
-    let s = r in
-    c.refused.ensures ∙ first_refused s.args.first.now s.args.second.now r.count_events-read.ensures c.in_default.is
+    c.refused.ensures ∙ first_refused c.args.first.now c.args.second.now c.count_events-read.ensures c.in_default.is
 
 count_events_requires_2 : tie.Need-count_events-read-requires-2
 count_events_requires_2 c κs = search rules
@@ -37,13 +35,9 @@ refused_requires_2 c κs = search rules
 
 returns_2 : tie.Need-returns-in_default-read
 returns_2 c =
-    let q = c in
-    let e = q in
-    let r = e in
-    let s = r in
     c.refused-in_default-read.ensures
-    ∙ second_refused s.args.first.now s.args.second.now r.count_events-read.ensures e.in-All.is
-    q.count_events-read-2.ensures c.in_default-read.is
+    ∙ second_refused c.args.first.now c.args.second.now c.count_events-read.ensures c.in-All.is
+    c.count_events-read-2.ensures c.in_default-read.is
 
 shared_end_requires : tie.Need-shared_end-at-requires
 shared_end_requires c κs = search rules
@@ -56,13 +50,8 @@ goes_on_requires_2 c κs = search rules
 
 returns_3 : tie.Need-returns
 returns_3 c =
-    let f = c in
-    let q = f in
-    let e = q in
-    let r = e in
-    let s = r in
-    compared s.args.first.now s.args.second.now r.count_events-read.ensures e.in-All.is
-    q.count_events-read-2.ensures f.in-All-read.is c.shared_end-at.ensures.0 c.goes_on.ensures c.goes_on-2.ensures
+    compared c.args.first.now c.args.second.now c.count_events-read.ensures c.in-All.is
+    c.count_events-read-2.ensures c.in-All-read.is c.shared_end-at.ensures.0 c.goes_on.ensures c.goes_on-2.ensures
 
 pub part_logs_spec : {M : Type 1} → statement M
 part_logs_spec =

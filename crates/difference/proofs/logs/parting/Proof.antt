@@ -13,8 +13,7 @@ tail_requires c κs = search rules
 
 returns : tie.Need-returns
 returns c =
-    let s = c in
-    c.tail.ensures ∙ tail_is s.args.first.now s.args.second.now c.part_logs.ensures
+    c.tail.ensures ∙ tail_is c.args.first.now c.args.second.now c.part_logs.ensures
 
 pub parting_spec : {M : Type 1} → statement M
 parting_spec = tie.close (tie.spec part_logs_requires tail_requires returns)

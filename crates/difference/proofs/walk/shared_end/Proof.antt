@@ -32,9 +32,7 @@ enum_known_d c = search rules
 -- the first log has no event there
 returns : tie.Need-returns-in_default invariant-loop decreases-loop
 returns c =
-    let l = c in
-    let s = l in
-    (sym (l.loop-d.invariant.1 ∙ first_stops s.args.first.now s.args.second.now l.loop-d.at _ c.read_event.ensures c.in_default.in_default-own.keys2), l.loop-d.invariant.0)
+    (sym (c.loop-d.invariant.1 ∙ first_stops c.args.first.now c.args.second.now c.loop-d.at _ c.read_event.ensures c.in_default.in_default-own.keys2), c.loop-d.invariant.0)
 
 read_event_requires_2 : tie.Need-read_event-requires-in-loop-d invariant-loop decreases-loop
 read_event_requires_2 c κs = tt
@@ -45,13 +43,9 @@ enum_known_e c = search rules
 -- the second log has none
 returns_2 : tie.Need-returns-in_default-read_event invariant-loop decreases-loop
 returns_2 c =
-    let d = c in
-    let r = d in
-    let l = r in
-    let s = l in
-    let first = sym r.read_event.ensures ∙ d.in-Found.is in (
-      sym (l.loop-d.invariant.1 ∙ second_stops s.args.first.now s.args.second.now l.loop-d.at _ first _ c.read_event-in-loop-d.ensures c.in_default-read_event.in_default-read_event-own.keys2),
-      l.loop-d.invariant.0,
+    let first = sym c.read_event.ensures ∙ c.in-Found.is in (
+      sym (c.loop-d.invariant.1 ∙ second_stops c.args.first.now c.args.second.now c.loop-d.at _ first _ c.read_event-in-loop-d.ensures c.in_default-read_event.in_default-read_event-own.keys2),
+      c.loop-d.invariant.0,
     )
 
 same_event_requires : tie.Need-same_event-requires invariant-loop decreases-loop
@@ -60,47 +54,32 @@ same_event_requires c κs = tt
 -- an event of each log was read, and they are the same: that of the second ends further on, within it
 found :
     (c : tie.Then-same_event invariant-loop decreases-loop) →
-    let e = c in
-    let l = e in
-    let s = l in read_at s.args.second.now l.loop-d.at ≡ Found e.in-Found-read_event.e e.in-Found-read_event.next
-found c = let e = c in sym e.read_event-in-loop-d.ensures ∙ e.in-Found-read_event.is
+    read_at c.args.second.now c.loop-d.at ≡ Found c.in-Found-read_event.e c.in-Found-read_event.next
+found c = sym c.read_event-in-loop-d.ensures ∙ c.in-Found-read_event.is
 
 further :
     (c : tie.Then-same_event invariant-loop decreases-loop) →
-    let e = c in
-    let l = e in
-    let s = l in (l.loop-d.at < e.in-Found-read_event.next) × (e.in-Found-read_event.next ≤ length s.args.second.now)
+    (c.loop-d.at < c.in-Found-read_event.next) × (c.in-Found-read_event.next ≤ length c.args.second.now)
 further c =
-    let l = c in
-    let s = l in
-    subst (Moves s.args.second.now l.loop-d.at) (found c) (goes_on_lem s.args.second.now l.loop-d.at)
+    subst (Moves c.args.second.now c.loop-d.at) (found c) (goes_on_lem c.args.second.now c.loop-d.at)
 
 loop_less : tie.Need-loop-d-smaller invariant-loop decreases-loop
 loop_less c = let m = further c in omega arith
 
 loop_again : tie.Need-loop-d-preserved invariant-loop decreases-loop
 loop_again c =
-    let d = c in
-    let r = d in
-    let l = r in
-    let s = l in
-    let first = sym r.read_event.ensures ∙ d.in-Found.is in (
+    let first = sym c.read_event.ensures ∙ c.in-Found.is in (
       (further c).1,
-      l.loop-d.invariant.1 ∙ both s.args.first.now s.args.second.now l.loop-d.at _ first _ (found c) (sym c.same_event.ensures ∙ c.if-same_event.true),
+      c.loop-d.invariant.1 ∙ both c.args.first.now c.args.second.now c.loop-d.at _ first _ (found c) (sym c.same_event.ensures ∙ c.if-same_event.true),
     )
 
 -- they differ
 returns_3 : tie.Need-returns-else-same_event invariant-loop decreases-loop
 returns_3 c =
-    let e = c in
-    let d = e in
-    let r = d in
-    let l = r in
-    let s = l in
-    let first = sym r.read_event.ensures ∙ d.in-Found.is in
-    let second = sym e.read_event-in-loop-d.ensures ∙ e.in-Found-read_event.is in (
-      sym (l.loop-d.invariant.1 ∙ parts s.args.first.now s.args.second.now l.loop-d.at _ first _ second (sym c.same_event.ensures ∙ c.if-same_event.false)),
-      l.loop-d.invariant.0,
+    let first = sym c.read_event.ensures ∙ c.in-Found.is in
+    let second = sym c.read_event-in-loop-d.ensures ∙ c.in-Found-read_event.is in (
+      sym (c.loop-d.invariant.1 ∙ parts c.args.first.now c.args.second.now c.loop-d.at _ first _ second (sym c.same_event.ensures ∙ c.if-same_event.false)),
+      c.loop-d.invariant.0,
     )
 
 pub shared_end_spec : {M : Type 1} → statement M

@@ -48,8 +48,7 @@ with_record_requires c κs = tt
 
 add_i : tie.Need-overflow_add-i invariant-loop decreases-loop
 add_i c =
-    let s = c in
-    let few = (listed (length s.args.bytes.now) s.args.each s.requires).few in
+    let few = (listed (length c.args.bytes.now) c.args.each c.requires).few in
     record { fits = omega (arith, few, c.loop-i-test.true) }
 
 loop_less : tie.Need-loop-i-smaller invariant-loop decreases-loop

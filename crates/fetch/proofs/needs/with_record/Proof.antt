@@ -30,9 +30,8 @@ with_operands_requires c κs = search rules
 
 returns_2 : tie.Need-returns
 returns_2 c =
-    let s = c in
-    let a = s.args in
-    good_record a.b.now a.set (sym s.refusal_alone.ensures ∙ s.if-refusal_alone-ne0.false) (c.fixed_up-x.ensures ∙ ap fixed_up c.parse.ensures) c.with_list.ensures c.with_operands.ensures
+    let a = c.args in
+    good_record a.b.now a.set (sym c.refusal_alone.ensures ∙ c.if-refusal_alone-ne0.false) (c.fixed_up-x.ensures ∙ ap fixed_up c.parse.ensures) c.with_list.ensures c.with_operands.ensures
 
 pub with_record_spec : {M : Type 1} → statement M
 with_record_spec =

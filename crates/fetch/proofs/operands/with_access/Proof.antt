@@ -24,10 +24,9 @@ with_term_requires_2 c κs = search rules
 
 returns : tie.Need-returns
 returns c =
-    let s = c in
-    let a = s.args in
+    let a = c.args in
     access_joined a.set a.x (shape_of a.spec)
-    s.segment_of-segment.ensures s.base_of-base.ensures s.index_of-index.ensures
+    c.segment_of-segment.ensures c.base_of-base.ensures c.index_of-index.ensures
     c.with_segment.ensures c.with_term.ensures c.with_term-2.ensures
 
 pub with_access_spec : {M : Type 1} → statement M

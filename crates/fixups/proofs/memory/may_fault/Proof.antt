@@ -21,9 +21,8 @@ lists_memory_requires c κs = search rules
 returns_2 : tie.Need-returns-then-lists_memory
 unfolding may_fault
 returns_2 c =
-    let s = c in
     sym
-    (any_later (λ (t : Bool). t) _ _ (sym s.is_complex.ensures ∙ s.if-is_complex.false)
+    (any_later (λ (t : Bool). t) _ _ (sym c.is_complex.ensures ∙ c.if-is_complex.false)
     ∙ any_here (λ (t : Bool). t) _ _ (sym c.lists_memory.ensures ∙ c.if-lists_memory.true))
 
 names_memory_requires : tie.Need-names_memory-requires
@@ -32,8 +31,7 @@ names_memory_requires c κs = search rules
 returns_3 : tie.Need-returns
 unfolding may_fault any
 returns_3 c =
-    let s = c in
-    rw (sym s.is_complex.ensures ∙ s.if-is_complex.false, sym c.lists_memory.ensures ∙ c.if-lists_memory.false, or-false)
+    rw (sym c.is_complex.ensures ∙ c.if-is_complex.false, sym c.lists_memory.ensures ∙ c.if-lists_memory.false, or-false)
     c.names_memory.ensures
 
 pub may_fault_spec : {M : Type 1} → statement M

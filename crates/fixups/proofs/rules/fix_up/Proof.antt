@@ -84,9 +84,8 @@ returns_8 c = ruled c.args.x (ap rule_of c.in-16.is) c.fix_maskmov.ensures
 returns_9 : tie.Need-returns-in-3
 unfolding rule_of
 returns_9 c =
-    let m = c in
-    let x = m.args.x in
-    let ne = m.in-3.in_default-own.rest in
+    let x = c.args.x in
+    let ne = c.in-3.in_default-own.rest in
     ruled x
     (rule_span div x.opcode 1 4 (inl ne.0.0.0.0.0.0.0.1, (inl ne.0.0.0.0.0.0.1, (inr refl, (inr refl, tt)))) c.in-3.if-opcode-lt1-own.false c.in-3.if-opcode-lt5-own.true)
     c.fix_div.ensures
@@ -94,9 +93,8 @@ returns_9 c =
 returns_10 : tie.Need-returns-in-7-to-10
 unfolding rule_of
 returns_10 c =
-    let m = c in
-    let x = m.args.x in
-    let ne = m.in-7-to-10.in_default-own.rest in
+    let x = c.args.x in
+    let ne = c.in-7-to-10.in_default-own.rest in
     ruled x
     (rule_span movhalf x.opcode 5 6 (inl ne.0.0.0.0.0.1, (inl ne.0.0.0.0.1, (inr refl, (inr refl, (inr refl, (inr refl, tt)))))) c.in-7-to-10.if-opcode-lt5-own.false c.in-7-to-10.if-opcode-lt11-own.true)
     c.fix_movhalf.ensures
@@ -104,9 +102,8 @@ returns_10 c =
 returns_11 : tie.Need-returns-in-13
 unfolding rule_of
 returns_11 c =
-    let m = c in
-    let x = m.args.x in
-    let ne = m.in-13.in_default-own.rest in
+    let x = c.args.x in
+    let ne = c.in-13.in_default-own.rest in
     ruled x
     (rule_span return x.opcode 11 4 (inl ne.0.0.0.1, (inl ne.0.0.1, (inr refl, (inr refl, tt)))) c.in-13.if-opcode-lt11-own.false c.in-13.if-opcode-lt15-own.true)
     c.fix_return.ensures
@@ -114,9 +111,8 @@ returns_11 c =
 returns_12 : tie.Need-returns-in-17
 unfolding rule_of
 returns_12 c =
-    let m = c in
-    let x = m.args.x in
-    let ne = m.in-17.in_default-own.rest in
+    let x = c.args.x in
+    let ne = c.in-17.in_default-own.rest in
     ruled x
     (rule_span pcmpestri x.opcode 15 4 (inl ne.0.1, (inl ne.1, (inr refl, (inr refl, tt)))) c.in-17.if-opcode-lt15-own.false c.in-17.if-opcode-lt19-own.true)
     c.fix_pcmpestri.ensures
@@ -124,8 +120,7 @@ returns_12 c =
 returns_13 : tie.Need-returns-in-19
 unfolding rule_of
 returns_13 c =
-    let m = c in
-    let x = m.args.x in
+    let x = c.args.x in
     ruled x
     (rule_span pcmpestrm x.opcode 19 2 (inr refl, (inr refl, tt)) c.in-19.if-opcode-lt19-own.false c.in-19.if-opcode-lt21-own.true)
     c.fix_pcmpestrm.ensures
@@ -133,8 +128,7 @@ returns_13 c =
 returns_14 : tie.Need-returns-in-21-to-23
 unfolding rule_of
 returns_14 c =
-    let m = c in
-    let x = m.args.x in
+    let x = c.args.x in
     ruled x
     (rule_span loop x.opcode 21 3 (inr refl, (inr refl, (inr refl, tt))) c.in-21-to-23.if-opcode-lt21-own.false c.in-21-to-23.if-opcode-lt24-own.true)
     c.fix_loop.ensures

@@ -10,13 +10,13 @@ use Rattle.printing.proofs.lines.put_around.Tie as tie
 
 put_requires : tie.Need-put-a-requires
 unfolding around
-put_requires c κs = let s = c in fits_first word_bytes (letters s.args.before.now ∷ []) ((decimal s.args.n ∷ []) ∷ (letters s.args.after.now ∷ []) ∷ []) s.requires
+put_requires c κs = fits_first word_bytes (letters c.args.before.now ∷ []) ((decimal c.args.n ∷ []) ∷ (letters c.args.after.now ∷ []) ∷ []) c.requires
 
 one :
-    (c : tie.After-put-a) → let s = c in
-    Going word_bytes (around s.args.before.now s.args.n s.args.after.now) ((decimal s.args.n ∷ []) ∷ (letters s.args.after.now ∷ []) ∷ []) s.args.out.now c.put-a.new.out c.put-a.result
+    (c : tie.After-put-a) → 
+    Going word_bytes (around c.args.before.now c.args.n c.args.after.now) ((decimal c.args.n ∷ []) ∷ (letters c.args.after.now ∷ []) ∷ []) c.args.out.now c.put-a.new.out c.put-a.result
 unfolding around
-one c = let s = c in first ((decimal s.args.n ∷ []) ∷ (letters s.args.after.now ∷ []) ∷ []) c.put-a.ensures s.requires s.well_formed.0.0
+one c = first ((decimal c.args.n ∷ []) ∷ (letters c.args.after.now ∷ []) ∷ []) c.put-a.ensures c.requires c.well_formed.0.0
 
 sub_put_decimal : tie.Need-slice_bounds-put_decimal-count
 sub_put_decimal c = inside (one c.before.before)
@@ -34,8 +34,8 @@ add_b : tie.Need-overflow_add-b
 add_b c = ends (one c.before.before.before.before.before.before) c.put_decimal.ensures
 
 two :
-    (c : tie.After-put_decimal) → let s = c in
-    Going word_bytes (around s.args.before.now s.args.n s.args.after.now) ((letters s.args.after.now ∷ []) ∷ []) s.args.out.now (back c.put-a.new.out c.put-a.result c.put_decimal.new.out) (c.put-a.result + c.put_decimal.result)
+    (c : tie.After-put_decimal) → 
+    Going word_bytes (around c.args.before.now c.args.n c.args.after.now) ((letters c.args.after.now ∷ []) ∷ []) c.args.out.now (back c.put-a.new.out c.put-a.result c.put_decimal.new.out) (c.put-a.result + c.put_decimal.result)
 two c = next (one c.before.before.before.before) c.put_decimal.ensures
 
 sub_put : tie.Need-slice_bounds-put-count

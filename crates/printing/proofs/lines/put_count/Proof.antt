@@ -11,14 +11,14 @@ returns c = rw (none_at_zero c.args.letter.now c.args.k c.args.n c.if-n-eq0.true
 
 put_pair_requires : tie.Need-put_pair-requires
 unfolding ascii
-put_pair_requires c κs = let s = c in rw (some_else s.args.letter.now s.args.k s.args.n c.if-n-eq0.false) at s.requires
+put_pair_requires c κs = rw (some_else c.args.letter.now c.args.k c.args.n c.if-n-eq0.false) at c.requires
 
 same_length : tie.Need-shape_of-out
 same_length c = search rules
 
 returns_2 : tie.Need-returns
 unfolding ascii
-returns_2 c = let s = c in rw (some_else s.args.letter.now s.args.k s.args.n c.if-n-eq0.false) c.put_pair.ensures
+returns_2 c = rw (some_else c.args.letter.now c.args.k c.args.n c.if-n-eq0.false) c.put_pair.ensures
 
 pub put_count_spec : {M : Type 1} → statement M
 put_count_spec =

@@ -11,13 +11,13 @@ use Rattle.printing.proofs.lines.put_pair.Tie as tie
 
 put_around_requires : tie.Need-put_around-a-requires
 unfolding pair_line
-put_around_requires c κs = let s = c in fits_first word_bytes (around s.args.before.now s.args.m s.args.between.now) ((around [] s.args.n (ascii "\n")) ∷ []) s.requires
+put_around_requires c κs = fits_first word_bytes (around c.args.before.now c.args.m c.args.between.now) ((around [] c.args.n (ascii "\n")) ∷ []) c.requires
 
 one :
-    (c : tie.After-put_around-a) → let s = c in
-    Going word_bytes (pair_line s.args.before.now s.args.m s.args.between.now s.args.n) ((around [] s.args.n (ascii "\n")) ∷ []) s.args.out.now c.put_around-a.new.out c.put_around-a.result
+    (c : tie.After-put_around-a) → 
+    Going word_bytes (pair_line c.args.before.now c.args.m c.args.between.now c.args.n) ((around [] c.args.n (ascii "\n")) ∷ []) c.args.out.now c.put_around-a.new.out c.put_around-a.result
 unfolding pair_line
-one c = let s = c in first ((around [] s.args.n (ascii "\n")) ∷ []) c.put_around-a.ensures s.requires s.well_formed.0.0
+one c = first ((around [] c.args.n (ascii "\n")) ∷ []) c.put_around-a.ensures c.requires c.well_formed.0.0
 
 sub_put_around : tie.Need-slice_bounds-put_around-count
 unfolding ascii
@@ -42,8 +42,8 @@ same_length : tie.Need-shape_of-out
 same_length c = search rules
 
 two :
-    (c : tie.After-put_around) → let s = c in
-    Going word_bytes (pair_line s.args.before.now s.args.m s.args.between.now s.args.n) ([]) s.args.out.now (back c.put_around-a.new.out c.put_around-a.result c.put_around.new.out) (c.put_around-a.result + c.put_around.result)
+    (c : tie.After-put_around) → 
+    Going word_bytes (pair_line c.args.before.now c.args.m c.args.between.now c.args.n) ([]) c.args.out.now (back c.put_around-a.new.out c.put_around-a.result c.put_around.new.out) (c.put_around-a.result + c.put_around.result)
 unfolding ascii
 two c = next (one c.before.before.before.before.before.before.before.before) c.put_around.ensures
 

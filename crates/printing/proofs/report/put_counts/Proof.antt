@@ -25,20 +25,19 @@ add_end : tie.Need-overflow_add-end invariant-loop decreases-loop
 add_end c = search rules
 
 loop_holds : tie.Need-loop-k-init invariant-loop decreases-loop
-loop_holds c = let s = c in (refl, omega arith, begins (line_all s.args.letter.now s.args.base s.args.words.now s.args.first s.args.count) s.requires.0 s.well_formed.0.0)
+loop_holds c = (refl, omega arith, begins (line_all c.args.letter.now c.args.base c.args.words.now c.args.first c.args.count) c.requires.0 c.well_formed.0.0)
 
 -- the line of number k, and the others
 ready :
-    (c : tie.In-loop-k invariant-loop decreases-loop) → let s = c in let l = c.loop-k in
-    Going word_bytes (count_lines s.args.letter.now s.args.base s.args.first s.args.count s.args.words.now)
-    (count_line s.args.letter.now l.k (get_or s.args.words.now (s.args.base + l.k) 0)
-    ∷ count_lines s.args.letter.now s.args.base (l.k + 1) (s.args.first + s.args.count - (l.k + 1)) s.args.words.now ∷ []) s.args.out.now l.out l.n
+    (c : tie.In-loop-k invariant-loop decreases-loop) → let l = c.loop-k in
+    Going word_bytes (count_lines c.args.letter.now c.args.base c.args.first c.args.count c.args.words.now)
+    (count_line c.args.letter.now l.k (get_or c.args.words.now (c.args.base + l.k) 0)
+    ∷ count_lines c.args.letter.now c.args.base (l.k + 1) (c.args.first + c.args.count - (l.k + 1)) c.args.words.now ∷ []) c.args.out.now l.out l.n
 ready c =
-    let s = c in
     let l = c.loop-k in
-    parted (count_line s.args.letter.now l.k (get_or s.args.words.now (s.args.base + l.k) 0))
-    (count_lines s.args.letter.now s.args.base (l.k + 1) (s.args.first + s.args.count - (l.k + 1)) s.args.words.now)
-    (line_first s.args.letter.now s.args.base s.args.words.now l.k (s.args.first + s.args.count) c.loop-k-test.true) l.invariant.2
+    parted (count_line c.args.letter.now l.k (get_or c.args.words.now (c.args.base + l.k) 0))
+    (count_lines c.args.letter.now c.args.base (l.k + 1) (c.args.first + c.args.count - (l.k + 1)) c.args.words.now)
+    (line_first c.args.letter.now c.args.base c.args.words.now l.k (c.args.first + c.args.count) c.loop-k-test.true) l.invariant.2
 
 sub_put_count : tie.Need-slice_bounds-put_count-count invariant-loop decreases-loop
 sub_put_count c = inside (ready c)
@@ -77,7 +76,7 @@ same_length : tie.Need-shape_of-out invariant-loop decreases-loop
 same_length c = keeps c.loop-k.invariant.2
 
 returns : tie.Need-returns invariant-loop decreases-loop
-returns c = let l = c.loop-k in let s = c in no_more (line_none s.args.letter.now s.args.base s.args.words.now l.k _ c.loop-k-test.false) l.invariant.2
+returns c = let l = c.loop-k in no_more (line_none c.args.letter.now c.args.base c.args.words.now l.k _ c.loop-k-test.false) l.invariant.2
 
 pub put_counts_spec : {M : Type 1} → statement M
 put_counts_spec =

@@ -16,13 +16,13 @@ element_copy_out_put_around c = search rules
 
 put_around_requires : tie.Need-put_around-a-requires
 unfolding sheet_text ascii
-put_around_requires c κs = let s = c in fits_first word_bytes (line (ascii "logs ") (get_or s.args.words.now logs_word 0)) ((counts_text s.args.words.now) ∷ (end_text s.args.words.now) ∷ []) s.requires
+put_around_requires c κs = fits_first word_bytes (line (ascii "logs ") (get_or c.args.words.now logs_word 0)) ((counts_text c.args.words.now) ∷ (end_text c.args.words.now) ∷ []) c.requires
 
 one :
-    (c : tie.After-put_around-a) → let s = c in
-    Going word_bytes (sheet_text s.args.words.now) ((counts_text s.args.words.now) ∷ (end_text s.args.words.now) ∷ []) s.args.out.now c.put_around-a.new.out c.put_around-a.result
+    (c : tie.After-put_around-a) → 
+    Going word_bytes (sheet_text c.args.words.now) ((counts_text c.args.words.now) ∷ (end_text c.args.words.now) ∷ []) c.args.out.now c.put_around-a.new.out c.put_around-a.result
 unfolding sheet_text ascii
-one c = let s = c in first ((counts_text s.args.words.now) ∷ (end_text s.args.words.now) ∷ []) c.put_around-a.ensures s.requires s.well_formed.0.0
+one c = first ((counts_text c.args.words.now) ∷ (end_text c.args.words.now) ∷ []) c.put_around-a.ensures c.requires c.well_formed.0.0
 
 sub_put_all_counts : tie.Need-slice_bounds-put_all_counts-count
 unfolding ascii
@@ -44,8 +44,8 @@ unfolding ascii
 add_b c = ends (one c.before.before.before.before.before.before) c.put_all_counts.ensures
 
 two :
-    (c : tie.After-put_all_counts) → let s = c in
-    Going word_bytes (sheet_text s.args.words.now) ((end_text s.args.words.now) ∷ []) s.args.out.now (back c.put_around-a.new.out c.put_around-a.result c.put_all_counts.new.out) (c.put_around-a.result + c.put_all_counts.result)
+    (c : tie.After-put_all_counts) → 
+    Going word_bytes (sheet_text c.args.words.now) ((end_text c.args.words.now) ∷ []) c.args.out.now (back c.put_around-a.new.out c.put_around-a.result c.put_all_counts.new.out) (c.put_around-a.result + c.put_all_counts.result)
 unfolding ascii
 two c = next (one c.before.before.before.before) c.put_all_counts.ensures
 
@@ -72,8 +72,8 @@ same_length : tie.Need-shape_of-out
 same_length c = search rules
 
 three :
-    (c : tie.After-put_end) → let s = c in
-    Going word_bytes (sheet_text s.args.words.now) ([]) s.args.out.now (back (back c.put_around-a.new.out c.put_around-a.result c.put_all_counts.new.out) (c.put_around-a.result + c.put_all_counts.result) c.put_end.new.out) ((c.put_around-a.result + c.put_all_counts.result) + c.put_end.result)
+    (c : tie.After-put_end) → 
+    Going word_bytes (sheet_text c.args.words.now) ([]) c.args.out.now (back (back c.put_around-a.new.out c.put_around-a.result c.put_all_counts.new.out) (c.put_around-a.result + c.put_all_counts.result) c.put_end.new.out) ((c.put_around-a.result + c.put_all_counts.result) + c.put_end.result)
 unfolding ascii
 three c = next (two c.before.before.before.before) c.put_end.ensures
 

@@ -36,20 +36,20 @@ visit_item_requires : tie.Need-visit_item-requires
 visit_item_requires c κs = search rules
 
 returns : tie.Need-returns-in-Nothing
-returns c = let s = c in let z = s.requires.0 in (
-  brought_quietly s.args.t s.args.item.now s.args.file.now s.args.log.now s.args.start Nothing c.in-Nothing.is c.unfinished.result (rw c.unfinished.ensures) refl,
+returns c = let z = c.requires.0 in (
+  brought_quietly c.args.t c.args.item.now c.args.file.now c.args.log.now c.args.start Nothing c.in-Nothing.is c.unfinished.result (rw c.unfinished.ensures) refl,
   rw c.unfinished.ensures (record { kept = z.kept; held = z.held; count = omega arith }),
 )
 
 returns_2 : tie.Need-returns-in-Unknown
-returns_2 c = let s = c in let z = s.requires.0 in (
-  brought_quietly s.args.t s.args.item.now s.args.file.now s.args.log.now s.args.start Unknown c.in-Unknown.is c.unfinished-in-Unknown.result (rw c.unfinished-in-Unknown.ensures) refl,
+returns_2 c = let z = c.requires.0 in (
+  brought_quietly c.args.t c.args.item.now c.args.file.now c.args.log.now c.args.start Unknown c.in-Unknown.is c.unfinished-in-Unknown.result (rw c.unfinished-in-Unknown.ensures) refl,
   rw c.unfinished-in-Unknown.ensures (record { kept = omega arith; held = z.held; count = omega arith }),
 )
 
 returns_3 : tie.Need-returns-in-BadFile
-returns_3 c = let s = c in let z = s.requires.0 in (
-  brought_quietly s.args.t s.args.item.now s.args.file.now s.args.log.now s.args.start BadFile c.in-BadFile.is c.finished.result (rw c.finished.ensures) refl,
+returns_3 c = let z = c.requires.0 in (
+  brought_quietly c.args.t c.args.item.now c.args.file.now c.args.log.now c.args.start BadFile c.in-BadFile.is c.finished.result (rw c.finished.ensures) refl,
   rw c.finished.ensures (record { kept = omega arith; held = z.held; count = omega arith }),
 )
 
@@ -57,10 +57,10 @@ same_length : tie.Need-shape_of-log
 same_length c = search rules
 
 returns_4 : tie.Need-returns-in-Record
-returns_4 c = let s = c in (
+returns_4 c = (
   c.visit_item.ensures.0
-      ∙ ap (λ (x : Fed (List ℕ) Said). handing (outcome_of s.args.t.taken x) s.args.log.now s.args.start)
-      (sym (brought_is s.args.t s.args.item.now s.args.file.now s.args.log.now s.args.start Record c.in-Record.is)),
+      ∙ ap (λ (x : Fed (List ℕ) Said). handing (outcome_of c.args.t.taken x) c.args.log.now c.args.start)
+      (sym (brought_is c.args.t c.args.item.now c.args.file.now c.args.log.now c.args.start Record c.in-Record.is)),
   c.visit_item.ensures.1,
 )
 

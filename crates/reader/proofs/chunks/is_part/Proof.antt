@@ -17,7 +17,7 @@ length_of_requires : tie.Need-length_of-requires
 length_of_requires c κs = search rules
 
 returns_3 : tie.Need-returns
-returns_3 c = let s = c in rw c.length_of.ensures.0 (some_part s.args.item.now s.args.kept c.if-item-ne-ITEM_ROOM.false c.if-kept-eq0.false)
+returns_3 c = rw c.length_of.ensures.0 (some_part c.args.item.now c.args.kept c.if-item-ne-ITEM_ROOM.false c.if-kept-eq0.false)
 
 pub is_part_spec : {M : Type 1} → statement M
 is_part_spec =

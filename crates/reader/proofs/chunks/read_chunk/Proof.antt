@@ -21,9 +21,9 @@ same_length_2 : tie.Need-shape_of-file-then-s
 same_length_2 c = search rules
 
 returns : tie.Need-returns-then-s
-returns c = let s = c in let e = c.checked-s.ensures in let k = e.1 in (
-  rw c.unfinished.ensures (stopped_reply (reader_with c.checked-s.result s.args.item.now s.args.file.now) s.args.chunk.now s.args.log.now s.args.start c.if-s.true
-      ∙ ap (λ (x : StreamReader). handed_to x s.args.chunk.now s.args.log.now s.args.start) e.0),
+returns c = let e = c.checked-s.ensures in let k = e.1 in (
+  rw c.unfinished.ensures (stopped_reply (reader_with c.checked-s.result c.args.item.now c.args.file.now) c.args.chunk.now c.args.log.now c.args.start c.if-s.true
+      ∙ ap (λ (x : StreamReader). handed_to x c.args.chunk.now c.args.log.now c.args.start) e.0),
   rw c.unfinished.ensures (record { kept = k.inside; held = k.held; count = omega arith }),
 )
 
@@ -40,17 +40,17 @@ same_length_4 : tie.Need-shape_of-file-then-lacks_room
 same_length_4 c = search rules
 
 returns_2 : tie.Need-returns-then-lacks_room
-returns_2 c = let s = c in let e = c.checked-s.ensures in let k = e.1 in (
-  rw c.unfinished-then-lacks_room.ensures (early_reply (reader_with c.checked-s.result s.args.item.now s.args.file.now) s.args.chunk.now s.args.log.now s.args.start c.if-s.false (sym c.lacks_room.ensures ∙ c.if-lacks_room.true)
-      ∙ ap (λ (x : StreamReader). handed_to x s.args.chunk.now s.args.log.now s.args.start) e.0),
+returns_2 c = let e = c.checked-s.ensures in let k = e.1 in (
+  rw c.unfinished-then-lacks_room.ensures (early_reply (reader_with c.checked-s.result c.args.item.now c.args.file.now) c.args.chunk.now c.args.log.now c.args.start c.if-s.false (sym c.lacks_room.ensures ∙ c.if-lacks_room.true)
+      ∙ ap (λ (x : StreamReader). handed_to x c.args.chunk.now c.args.log.now c.args.start) e.0),
   rw c.unfinished-then-lacks_room.ensures (record { kept = k.inside; held = k.held; count = omega arith }),
 )
 
 take_items_requires : tie.Need-take_items-u-requires
-take_items_requires c κs = let s = c in (ready c.checked-s.result s.args.item.now s.args.file.now c.checked-s.ensures.1 c.if-s.false, omega arith)
+take_items_requires c κs = (ready c.checked-s.result c.args.item.now c.args.file.now c.checked-s.ensures.1 c.if-s.false, omega arith)
 
 answer_requires : tie.Need-answer-requires
-answer_requires c κs = let s = c in (c.take_items-u.ensures.1.sized, has_room s.args.start (length s.args.log.now) (sym c.lacks_room.ensures ∙ c.if-lacks_room.false))
+answer_requires c κs = (c.take_items-u.ensures.1.sized, has_room c.args.start (length c.args.log.now) (sym c.lacks_room.ensures ∙ c.if-lacks_room.false))
 
 same_length_5 : tie.Need-shape_of-item
 same_length_5 c = search rules
@@ -62,13 +62,13 @@ same_length_7 : tie.Need-shape_of-log
 same_length_7 c = search rules
 
 returns_3 : tie.Need-returns
-returns_3 c = let s = c in let e = c.checked-s.ensures in let x = c.checked-s.result in
+returns_3 c = let e = c.checked-s.ensures in let x = c.checked-s.result in
     let goes = c.if-s.false in
     let room = sym c.lacks_room.ensures ∙ c.if-lacks_room.false in
-    let brought = c.take_items-u.ensures.0 ∙ begins x s.args.item.now s.args.file.now e.1 goes s.args.chunk.now in (
+    let brought = c.take_items-u.ensures.0 ∙ begins x c.args.item.now c.args.file.now e.1 goes c.args.chunk.now in (
       c.answer.ensures.0
-          ∙ chunk_reply (reader_with x s.args.item.now s.args.file.now) s.args.chunk.now s.args.log.now s.args.start c.take_items-u.result c.take_items-u.new.item c.take_items-u.new.file goes room c.take_items-u.ensures.2 brought
-          ∙ ap (λ (x : StreamReader). handed_to x s.args.chunk.now s.args.log.now s.args.start) e.0,
+          ∙ chunk_reply (reader_with x c.args.item.now c.args.file.now) c.args.chunk.now c.args.log.now c.args.start c.take_items-u.result c.take_items-u.new.item c.take_items-u.new.file goes room c.take_items-u.ensures.2 brought
+          ∙ ap (λ (x : StreamReader). handed_to x c.args.chunk.now c.args.log.now c.args.start) e.0,
       c.answer.ensures.1,
     )
 

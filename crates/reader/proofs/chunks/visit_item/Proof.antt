@@ -10,10 +10,10 @@ use Rattle.reader.proofs.chunks.visit_item.Statement.{statement}
 use Rattle.reader.proofs.chunks.visit_item.Tie as tie
 
 slice_aggregate_visit_accesses : tie.Need-slice_bounds-visit_accesses-end
-slice_aggregate_visit_accesses c = let s = c in let z = s.requires.0 in sym (length-take-le s.args.t.kept s.args.item.now (omega (arith, z.kept, z.place)))
+slice_aggregate_visit_accesses c = let z = c.requires.0 in sym (length-take-le c.args.t.kept c.args.item.now (omega (arith, z.kept, z.place)))
 
 slice_aggregate_visit_accesses_2 : tie.Need-slice_bounds-visit_accesses-end-2
-slice_aggregate_visit_accesses_2 c = let s = c in let z = s.requires.0 in sym (length-take-le s.args.t.file s.args.file.now (omega (arith, z.held, z.beside)))
+slice_aggregate_visit_accesses_2 c = let z = c.requires.0 in sym (length-take-le c.args.t.file c.args.file.now (omega (arith, z.held, z.beside)))
 
 visit_accesses_requires : tie.Need-visit_accesses-requires
 visit_accesses_requires c κs = search rules
@@ -25,12 +25,12 @@ same_length : tie.Need-shape_of-log
 same_length c = search rules
 
 returns : tie.Need-returns
-returns c = let s = c in let z = s.requires.0 in
-    let f = take s.args.t.file s.args.file.now in
-    let b = take s.args.t.kept s.args.item.now in (
-      ap (λ (a : Reply). left_by a s.args.item.now s.args.file.now c.visit_accesses.new.log) c.visited.ensures
-          ∙ visit_replies f b s.args.log.now s.args.start c.visit_accesses.ensures s.args.t.taken s.requires.1,
-      rw c.visited.ensures (record { kept = omega arith; held = z.held; count = count_small f b s.args.log.now s.args.start c.visit_accesses.ensures }),
+returns c = let z = c.requires.0 in
+    let f = take c.args.t.file c.args.file.now in
+    let b = take c.args.t.kept c.args.item.now in (
+      ap (λ (a : Reply). left_by a c.args.item.now c.args.file.now c.visit_accesses.new.log) c.visited.ensures
+          ∙ visit_replies f b c.args.log.now c.args.start c.visit_accesses.ensures c.args.t.taken c.requires.1,
+      rw c.visited.ensures (record { kept = omega arith; held = z.held; count = count_small f b c.args.log.now c.args.start c.visit_accesses.ensures }),
     )
 
 pub visit_item_spec : {M : Type 1} → statement M

@@ -34,13 +34,13 @@ loop_less : tie.Need-loop-i-smaller invariant-loop decreases-loop
 loop_less c = omega arith
 
 loop_again : tie.Need-loop-i-preserved invariant-loop decreases-loop
-loop_again c = let l = c.loop-i in let s = c in (omega arith, length-set l.place (s.args.at + l.i) _ ∙ l.invariant.1, ap (λ (p : List ℕ). set p (s.args.at + l.i) (get_or s.args.from.now l.i 0)) l.invariant.2 ∙ pasted s.args.place.now s.args.at s.args.from.now l.i (omega arith) (omega arith))
+loop_again c = let l = c.loop-i in (omega arith, length-set l.place (c.args.at + l.i) _ ∙ l.invariant.1, ap (λ (p : List ℕ). set p (c.args.at + l.i) (get_or c.args.from.now l.i 0)) l.invariant.2 ∙ pasted c.args.place.now c.args.at c.args.from.now l.i (omega arith) (omega arith))
 
 same_length : tie.Need-shape_of-place invariant-loop decreases-loop
 same_length c = c.loop-i.invariant.1
 
 returns : tie.Need-returns invariant-loop decreases-loop
-returns c = let l = c.loop-i in let s = c in l.invariant.2 ∙ all_pasted s.args.place.now s.args.at s.args.from.now l.i (omega arith)
+returns c = let l = c.loop-i in l.invariant.2 ∙ all_pasted c.args.place.now c.args.at c.args.from.now l.i (omega arith)
 
 pub fill_spec : {M : Type 1} → statement M
 fill_spec =

@@ -19,38 +19,38 @@ of_file_requires : tie.Need-of_file-requires
 of_file_requires c κs = search rules
 
 slice_aggregate_is_file : tie.Need-slice_bounds-is_file-end
-slice_aggregate_is_file c = let s = c in sym (length-take-le s.args.t.kept s.args.item.now (omega (arith, s.requires.0.kept, s.requires.0.place)))
+slice_aggregate_is_file c = sym (length-take-le c.args.t.kept c.args.item.now (omega (arith, c.requires.0.kept, c.requires.0.place)))
 
 is_file_requires : tie.Need-is_file-requires
 is_file_requires c κs = search rules
 
 slice_aggregate_fill : tie.Need-slice_bounds-fill-end
-slice_aggregate_fill c = let s = c in sym (length-take-le s.args.t.kept s.args.item.now (omega (arith, s.requires.0.kept, s.requires.0.place)))
+slice_aggregate_fill c = sym (length-take-le c.args.t.kept c.args.item.now (omega (arith, c.requires.0.kept, c.requires.0.place)))
 
 fill_requires : tie.Need-fill-requires
-fill_requires c κs = let s = c in omega (arith, length-take s.args.t.kept s.args.item.now, s.requires.0.kept, s.requires.0.place, s.requires.0.beside)
+fill_requires c κs = omega (arith, length-take c.args.t.kept c.args.item.now, c.requires.0.kept, c.requires.0.place, c.requires.0.beside)
 
 same_length : tie.Need-shape_of-file-then-is_file
 same_length c = search rules
 
 returns : tie.Need-returns-then-is_file
-returns c = let s = c in let z = s.requires.0 in (
-  λ x. ap (λ (p : List ℕ). onward (taking Nothing 0 s.args.t.kept s.args.t.taken) s.args.item.now p x) c.fill.ensures
-      ∙ good_file s.args.t s.args.item.now s.args.file.now z s.requires.1 x (sym c.of_file.ensures ∙ c.if-of_file.true) (sym c.is_file.ensures ∙ c.if-is_file.true),
+returns c = let z = c.requires.0 in (
+  λ x. ap (λ (p : List ℕ). onward (taking Nothing 0 c.args.t.kept c.args.t.taken) c.args.item.now p x) c.fill.ensures
+      ∙ good_file c.args.t c.args.item.now c.args.file.now z c.requires.1 x (sym c.of_file.ensures ∙ c.if-of_file.true) (sym c.is_file.ensures ∙ c.if-is_file.true),
   refl,
   record { sized = record { place = z.place; beside = c.file-1.given ∙ z.beside; kept = omega arith; held = z.kept }; part = inl refl },
 )
 
 returns_2 : tie.Need-returns-then-of_file
-returns_2 c = let s = c in let z = s.requires.0 in (
-  λ x. bad_file_lem s.args.t s.args.item.now s.args.file.now z s.requires.1 x (sym c.of_file.ensures ∙ c.if-of_file.true) (sym c.is_file.ensures ∙ c.if-is_file.false),
+returns_2 c = let z = c.requires.0 in (
+  λ x. bad_file_lem c.args.t c.args.item.now c.args.file.now z c.requires.1 x (sym c.of_file.ensures ∙ c.if-of_file.true) (sym c.is_file.ensures ∙ c.if-is_file.false),
   refl,
   record { sized = record { place = z.place; beside = z.beside; kept = z.kept; held = z.held }; part = tt },
 )
 
 returns_3 : tie.Need-returns
-returns_3 c = let s = c in let z = s.requires.0 in (
-  λ x. whole_record s.args.t s.args.item.now s.args.file.now z s.requires.1 x (sym c.of_file.ensures ∙ c.if-of_file.false),
+returns_3 c = let z = c.requires.0 in (
+  λ x. whole_record c.args.t c.args.item.now c.args.file.now z c.requires.1 x (sym c.of_file.ensures ∙ c.if-of_file.false),
   refl,
   record { sized = record { place = z.place; beside = z.beside; kept = z.kept; held = z.held }; part = tt },
 )

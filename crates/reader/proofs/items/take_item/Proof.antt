@@ -15,36 +15,33 @@ use Rattle.reader.proofs.items.take_item.Statement.{statement}
 use Rattle.reader.proofs.items.take_item.Tie as tie
 
 -- the item's length, by the byte that comes next
-long_is : (c : tie.After-length_of-long) → let s = c in
-    c.length_of-long.result ≡ length_of (get_or (take s.args.t.kept s.args.item.now ++ (get_or s.args.chunk.now s.args.t.taken 0 ∷ [])) 0 0)
+long_is : (c : tie.After-length_of-long) → 
+    c.length_of-long.result ≡ length_of (get_or (take c.args.t.kept c.args.item.now ++ (get_or c.args.chunk.now c.args.t.taken 0 ∷ [])) 0 0)
 long_is c = c.length_of-long.ensures.0 ∙ ap length_of c.kind_of.ensures
 
 -- a known kind has more bytes than are kept
 shorter : (c : tie.Else-long-eq0) → c.args.t.kept < c.length_of-long.result
 shorter c =
-    let s = c in
     rw (long_is c.before)
-    (below s.args.t s.args.item.now s.args.file.now s.args.chunk.now s.requires.0 s.requires.1 (λ e. c.if-long-eq0.false (long_is c.before ∙ e)))
+    (below c.args.t c.args.item.now c.args.file.now c.args.chunk.now c.requires.0 c.requires.1 (λ e. c.if-long-eq0.false (long_is c.before ∙ e)))
 
 -- how many bytes are taken
-taken : (c : tie.After-smaller-n) → let s = c in let n = c.smaller-n.result in
-    (0 < n) × (s.args.t.taken + n ≤ length s.args.chunk.now) × (s.args.t.kept + n ≤ c.length_of-long.result)
+taken : (c : tie.After-smaller-n) → let n = c.smaller-n.result in
+    (0 < n) × (c.args.t.taken + n ≤ length c.args.chunk.now) × (c.args.t.kept + n ≤ c.length_of-long.result)
 taken c =
-    let s = c in
-    some_taken c.length_of-long.result s.args.t.kept s.args.t.taken (length s.args.chunk.now) c.smaller-n.result c.smaller-n.ensures (shorter c.before)
-    (going s.args.t (length s.args.chunk.now) s.requires.1).1
+    some_taken c.length_of-long.result c.args.t.kept c.args.t.taken (length c.args.chunk.now) c.smaller-n.result c.smaller-n.ensures (shorter c.before)
+    (going c.args.t (length c.args.chunk.now) c.requires.1).1
 
 -- where they are laid
-filled : (c : tie.After-fill) → let s = c in
-    c.fill.new.place ≡ splice s.args.item.now s.args.t.kept (take c.smaller-n.result (drop s.args.t.taken s.args.chunk.now))
+filled : (c : tie.After-fill) → 
+    c.fill.new.place ≡ splice c.args.item.now c.args.t.kept (take c.smaller-n.result (drop c.args.t.taken c.args.chunk.now))
 filled c =
-    let s = c in
     let n = c.smaller-n.result in
-    let e : s.args.t.taken + n - s.args.t.taken ≡ n = omega arith in
-    c.fill.ensures ∙ ap (λ (m : ℕ). splice s.args.item.now s.args.t.kept (take m (drop s.args.t.taken s.args.chunk.now))) e
+    let e : c.args.t.taken + n - c.args.t.taken ≡ n = omega arith in
+    c.fill.ensures ∙ ap (λ (m : ℕ). splice c.args.item.now c.args.t.kept (take m (drop c.args.t.taken c.args.chunk.now))) e
 
 shared_slice_read_kind_of : tie.Need-bounds-chunk-at
-shared_slice_read_kind_of c = let s = c in (going s.args.t (length s.args.chunk.now) s.requires.1).1
+shared_slice_read_kind_of c = (going c.args.t (length c.args.chunk.now) c.requires.1).1
 
 kind_of_requires : tie.Need-kind_of-requires
 kind_of_requires c κs = search rules
@@ -56,17 +53,17 @@ same_length : tie.Need-shape_of-item-then-long-eq0
 same_length c = search rules
 
 returns : tie.Need-returns-then-long-eq0
-returns c = let s = c in let z = s.requires.0.sized in (
-  unknown_here s.args.t s.args.item.now s.args.file.now s.args.chunk.now s.requires.0 s.requires.1 (sym (long_is c.before) ∙ c.if-long-eq0.true),
+returns c = let z = c.requires.0.sized in (
+  unknown_here c.args.t c.args.item.now c.args.file.now c.args.chunk.now c.requires.0 c.requires.1 (sym (long_is c.before) ∙ c.if-long-eq0.true),
   record { sized = record { place = z.place; beside = z.beside; kept = z.kept; held = z.held }; part = tt },
-  record { within = omega (arith, (going s.args.t (length s.args.chunk.now) s.requires.1).1); more = λ e. absurd (unknown_ends _ _ _ _ e) },
+  record { within = omega (arith, (going c.args.t (length c.args.chunk.now) c.requires.1).1); more = λ e. absurd (unknown_ends _ _ _ _ e) },
 )
 
 sub_smaller : tie.Need-overflow_sub-long
 sub_smaller c = omega (arith, shorter c)
 
 sub_smaller_2 : tie.Need-overflow_sub-chunk
-sub_smaller_2 c = let s = c in omega (arith, (going s.args.t (length s.args.chunk.now) s.requires.1).1)
+sub_smaller_2 c = omega (arith, (going c.args.t (length c.args.chunk.now) c.requires.1).1)
 
 smaller_requires : tie.Need-smaller-n-requires
 smaller_requires c κs = search rules
@@ -96,12 +93,12 @@ same_length_2 : tie.Need-shape_of-item-then-kept-n
 same_length_2 c = search rules
 
 returns_2 : tie.Need-returns-then-kept-n
-returns_2 c = let s = c in let z = s.requires.0.sized in let h = taken c.before.before.before.before.before.before in let m = filled c.before.before.before in
-    let room : s.args.t.kept + c.smaller-n.result ≤ item_room = omega (arith, h.2, c.length_of-long.ensures.1) in
-    let less : s.args.t.kept + c.smaller-n.result < length_of (get_or (take s.args.t.kept s.args.item.now ++ (get_or s.args.chunk.now s.args.t.taken 0 ∷ [])) 0 0) = rw (← long_is c.before.before.before.before.before.before.before.before) c.if-kept-n.true in
-    let first = first_now s.args.t s.args.item.now s.args.file.now s.args.chunk.now s.requires.0 s.requires.1 c.smaller-n.result h.0 h.1 room in (
-      ap (λ (p : List ℕ). onward (taking Nothing (s.args.t.kept + c.smaller-n.result) s.args.t.file (s.args.t.taken + c.smaller-n.result)) p s.args.file.now s.args.chunk.now) m
-          ∙ part_taken s.args.t s.args.item.now s.args.file.now s.args.chunk.now s.requires.0 s.requires.1 c.smaller-n.result h.0 h.1 room less,
+returns_2 c = let z = c.requires.0.sized in let h = taken c.before.before.before.before.before.before in let m = filled c.before.before.before in
+    let room : c.args.t.kept + c.smaller-n.result ≤ item_room = omega (arith, h.2, c.length_of-long.ensures.1) in
+    let less : c.args.t.kept + c.smaller-n.result < length_of (get_or (take c.args.t.kept c.args.item.now ++ (get_or c.args.chunk.now c.args.t.taken 0 ∷ [])) 0 0) = rw (← long_is c.before.before.before.before.before.before.before.before) c.if-kept-n.true in
+    let first = first_now c.args.t c.args.item.now c.args.file.now c.args.chunk.now c.requires.0 c.requires.1 c.smaller-n.result h.0 h.1 room in (
+      ap (λ (p : List ℕ). onward (taking Nothing (c.args.t.kept + c.smaller-n.result) c.args.t.file (c.args.t.taken + c.smaller-n.result)) p c.args.file.now c.args.chunk.now) m
+          ∙ part_taken c.args.t c.args.item.now c.args.file.now c.args.chunk.now c.requires.0 c.requires.1 c.smaller-n.result h.0 h.1 room less,
       record { sized = record { place = c.item-1.given ∙ z.place; beside = z.beside; kept = room; held = z.held }; part = inr (rw (m, first) less) },
       record { within = h.1; more = λ e. omega (arith, h.0) },
     )
@@ -116,13 +113,13 @@ same_length_4 : tie.Need-shape_of-file
 same_length_4 c = search rules
 
 returns_3 : tie.Need-returns
-returns_3 c = let s = c in let z = s.requires.0.sized in let h = taken c.before.before.before.before.before.before.before.before.before.before in let m = filled c.before.before.before.before.before.before.before in
-    let room : s.args.t.kept + c.smaller-n.result ≤ item_room = omega (arith, h.2, c.length_of-long.ensures.1) in
-    let all : s.args.t.kept + c.smaller-n.result ≡ length_of (get_or (take s.args.t.kept s.args.item.now ++ (get_or s.args.chunk.now s.args.t.taken 0 ∷ [])) 0 0) = rw (← long_is c.before.before.before.before.before.before.before.before.before.before.before.before) (omega (arith, h.2, c.if-kept-n.false)) in
+returns_3 c = let z = c.requires.0.sized in let h = taken c.before.before.before.before.before.before.before.before.before.before in let m = filled c.before.before.before.before.before.before.before in
+    let room : c.args.t.kept + c.smaller-n.result ≤ item_room = omega (arith, h.2, c.length_of-long.ensures.1) in
+    let all : c.args.t.kept + c.smaller-n.result ≡ length_of (get_or (take c.args.t.kept c.args.item.now ++ (get_or c.args.chunk.now c.args.t.taken 0 ∷ [])) 0 0) = rw (← long_is c.before.before.before.before.before.before.before.before.before.before.before.before) (omega (arith, h.2, c.if-kept-n.false)) in
     let end = c.settle.ensures.1 in (
-      c.settle.ensures.0 s.args.chunk.now
-          ∙ ap (λ (p : List ℕ). after_item (meaning (take s.args.t.file s.args.file.now) (take (s.args.t.kept + c.smaller-n.result) p)) (s.args.t.taken + c.smaller-n.result) s.args.chunk.now) m
-          ∙ whole_taken s.args.t s.args.item.now s.args.file.now s.args.chunk.now s.requires.0 s.requires.1 c.smaller-n.result h.0 h.1 room all,
+      c.settle.ensures.0 c.args.chunk.now
+          ∙ ap (λ (p : List ℕ). after_item (meaning (take c.args.t.file c.args.file.now) (take (c.args.t.kept + c.smaller-n.result) p)) (c.args.t.taken + c.smaller-n.result) c.args.chunk.now) m
+          ∙ whole_taken c.args.t c.args.item.now c.args.file.now c.args.chunk.now c.requires.0 c.requires.1 c.smaller-n.result h.0 h.1 room all,
       c.settle.ensures.2,
       record { within = omega (arith, h.1, end); more = λ e. omega (arith, h.0, end) },
     )

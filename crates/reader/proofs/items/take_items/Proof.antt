@@ -15,7 +15,7 @@ abbrev decreases-loop : tie.decreases-loop-item
 decreases-loop item₀ file₀ chunk u₀ item file u = left u (length chunk)
 
 loop_holds : tie.Need-loop-item-init invariant-loop decreases-loop
-loop_holds c = let s = c in (refl, refl, s.requires.0, s.requires.1, refl)
+loop_holds c = (refl, refl, c.requires.0, c.requires.1, refl)
 
 goes_on_requires : tie.Need-goes_on-requires invariant-loop decreases-loop
 goes_on_requires c κs = tt

@@ -52,9 +52,9 @@ same_length : tie.Need-shape_of-log
 same_length c = search rules
 
 returns : tie.Need-returns
-returns c = let s = c in let a = c.read_chunk-reply in
+returns c = let a = c.read_chunk-reply in
     answered a.result a.new.item a.new.file a.new.log _
-    (a.ensures.0 ∙ ap (λ (x : StreamReader). handed_to x s.args.chunk.now s.args.log.now s.args.start) c.reader_in-held.ensures)
+    (a.ensures.0 ∙ ap (λ (x : StreamReader). handed_to x c.args.chunk.now c.args.log.now c.args.start) c.reader_in-held.ensures)
     c.call_bits.result c.words_of.result c.call_bits.ensures c.words_of.ensures
 
 pub read_words_spec : {M : Type 1} → statement M

@@ -40,14 +40,14 @@ loop_less : tie.Need-loop-i-smaller invariant-loop decreases-loop
 loop_less c = omega arith
 
 loop_again : tie.Need-loop-i-preserved invariant-loop decreases-loop
-loop_again c = let l = c.loop-i in let s = c in (
+loop_again c = let l = c.loop-i in (
   omega arith,
-  ap (λ (v : ℕ). sets (set l.words (s.args.from + l.i) v) (s.args.from + (l.i + 1)) (to_come s.args.bytes.now (l.i + 1))) c.u64_at.ensures
-      ∙ one_stored l.words s.args.bytes.now s.args.from l.i c.loop-i-test.true ∙ l.invariant.1,
+  ap (λ (v : ℕ). sets (set l.words (c.args.from + l.i) v) (c.args.from + (l.i + 1)) (to_come c.args.bytes.now (l.i + 1))) c.u64_at.ensures
+      ∙ one_stored l.words c.args.bytes.now c.args.from l.i c.loop-i-test.true ∙ l.invariant.1,
 )
 
 returns : tie.Need-returns invariant-loop decreases-loop
-returns c = let l = c.loop-i in let s = c in all_stored l.words s.args.words.now s.args.bytes.now s.args.from l.i c.loop-i-test.false l.invariant.1
+returns c = let l = c.loop-i in all_stored l.words c.args.words.now c.args.bytes.now c.args.from l.i c.loop-i-test.false l.invariant.1
 
 pub pack_spec : {M : Type 1} → statement M
 pack_spec =

@@ -16,10 +16,10 @@ slice_aggregate_fill : tie.Need-slice_bounds-fill-end
 slice_aggregate_fill c = search rules
 
 slice_aggregate_fill_2 : tie.Need-slice_bounds-fill-end-2
-slice_aggregate_fill_2 c = let s = c in sym (length-take-le s.args.n s.args.bytes.now s.requires.2)
+slice_aggregate_fill_2 c = sym (length-take-le c.args.n c.args.bytes.now c.requires.2)
 
 fill_requires : tie.Need-fill-requires
-fill_requires c κs = let s = c in omega (arith, length-take s.args.n s.args.bytes.now, s.requires.1)
+fill_requires c κs = omega (arith, length-take c.args.n c.args.bytes.now, c.requires.1)
 
 slice_aggregate_pack : tie.Need-slice_bounds-pack-end
 slice_aggregate_pack c = search rules
@@ -28,7 +28,7 @@ pack_requires : tie.Need-pack-requires
 pack_requires c κs = search rules
 
 returns : tie.Need-returns
-returns c = let s = c in c.pack.ensures ∙ ap (λ (l : List ℕ). sets s.args.words.now s.args.from l) (ap words_in c.fill.ensures ∙ padded item_room (take s.args.n s.args.bytes.now))
+returns c = c.pack.ensures ∙ ap (λ (l : List ℕ). sets c.args.words.now c.args.from l) (ap words_in c.fill.ensures ∙ padded item_room (take c.args.n c.args.bytes.now))
 
 pub pack_front_spec : {M : Type 1} → statement M
 pack_front_spec =

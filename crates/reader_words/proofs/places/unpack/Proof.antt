@@ -49,15 +49,15 @@ loop_less : tie.Need-loop-i-smaller invariant-loop decreases-loop
 loop_less c = omega arith
 
 loop_again : tie.Need-loop-i-preserved invariant-loop decreases-loop
-loop_again c = let l = c.loop-i in let s = c in
-    let next = one_laid s.args.words.now s.args.from s.args.out.now l.out c.put_u64.new.out l.i l.invariant.2 c.put_u64.ensures in
-    (omega arith, laid_long s.args.words.now s.args.from s.args.out.now _ (l.i + 1) (omega (arith, s.requires.1)) next, next)
+loop_again c = let l = c.loop-i in 
+    let next = one_laid c.args.words.now c.args.from c.args.out.now l.out c.put_u64.new.out l.i l.invariant.2 c.put_u64.ensures in
+    (omega arith, laid_long c.args.words.now c.args.from c.args.out.now _ (l.i + 1) (omega (arith, c.requires.1)) next, next)
 
 same_length : tie.Need-shape_of-out invariant-loop decreases-loop
 same_length c = c.loop-i.invariant.1
 
 returns : tie.Need-returns invariant-loop decreases-loop
-returns c = let l = c.loop-i in let s = c in all_laid s.args.words.now s.args.from s.args.out.now l.out l.i (omega arith) (omega (arith, s.requires.1)) l.invariant.2
+returns c = let l = c.loop-i in all_laid c.args.words.now c.args.from c.args.out.now l.out l.i (omega arith) (omega (arith, c.requires.1)) l.invariant.2
 
 pub unpack_spec : {M : Type 1} → statement M
 unpack_spec =

@@ -17,16 +17,16 @@ checked_requires : tie.Need-checked-r-requires
 checked_requires c κs = search rules
 
 words_of_requires : tie.Need-words_of-again-requires
-words_of_requires c κs = let s = c in placed s.args.words.now s.args.item.now s.args.file.now s.requires.0 s.requires.1 c.checked-r.result c.checked-r.ensures.0 c.checked-r.ensures.1
+words_of_requires c κs = placed c.args.words.now c.args.item.now c.args.file.now c.requires.0 c.requires.1 c.checked-r.result c.checked-r.ensures.0 c.checked-r.ensures.1
 
 same_words_requires : tie.Need-same_words-requires
 same_words_requires c κs = search rules
 
 returns : tie.Need-returns-then-same_words
-returns c = let s = c in let e = c.checked-r.ensures in held_by s.args.words.now s.args.item.now s.args.file.now s.requires.0 s.requires.1 c.checked-r.result e.0 e.1 c.words_of-again.result c.words_of-again.ensures (sym c.same_words.ensures ∙ c.if-same_words.true)
+returns c = let e = c.checked-r.ensures in held_by c.args.words.now c.args.item.now c.args.file.now c.requires.0 c.requires.1 c.checked-r.result e.0 e.1 c.words_of-again.result c.words_of-again.ensures (sym c.same_words.ensures ∙ c.if-same_words.true)
 
 returns_2 : tie.Need-returns
-returns_2 c = let s = c in let e = c.checked-r.ensures in held_by_none s.args.words.now s.args.item.now s.args.file.now s.requires.0 s.requires.1 c.checked-r.result e.0 e.1 c.words_of-again.result c.words_of-again.ensures (sym c.same_words.ensures ∙ c.if-same_words.false)
+returns_2 c = let e = c.checked-r.ensures in held_by_none c.args.words.now c.args.item.now c.args.file.now c.requires.0 c.requires.1 c.checked-r.result e.0 e.1 c.words_of-again.result c.words_of-again.ensures (sym c.same_words.ensures ∙ c.if-same_words.false)
 
 pub reader_in_spec : {M : Type 1} → statement M
 reader_in_spec =

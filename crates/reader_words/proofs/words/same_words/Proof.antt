@@ -31,7 +31,7 @@ element_copy_out_if1_2 : tie.Need-bounds-b-i invariant-loop decreases-loop
 element_copy_out_if1_2 c = search rules
 
 returns : tie.Need-returns-then-a-i invariant-loop decreases-loop
-returns c = let s = c in let l = c.loop-i in sym (one_differs s.args.a.now s.args.b.now l.i reader_words c.loop-i-test.true c.if-a-i.true)
+returns c = let l = c.loop-i in sym (one_differs c.args.a.now c.args.b.now l.i reader_words c.loop-i-test.true c.if-a-i.true)
 
 add_i : tie.Need-overflow_add-i invariant-loop decreases-loop
 add_i c = search rules
@@ -40,10 +40,10 @@ loop_less : tie.Need-loop-i-smaller invariant-loop decreases-loop
 loop_less c = omega arith
 
 loop_again : tie.Need-loop-i-preserved invariant-loop decreases-loop
-loop_again c = let s = c in let l = c.loop-i in (omega arith, rw (add-one l.i) (one_same s.args.a.now s.args.b.now l.i l.invariant.1 c.if-a-i.false))
+loop_again c = let l = c.loop-i in (omega arith, rw (add-one l.i) (one_same c.args.a.now c.args.b.now l.i l.invariant.1 c.if-a-i.false))
 
 returns_2 : tie.Need-returns invariant-loop decreases-loop
-returns_2 c = let s = c in let l = c.loop-i in let e : l.i ≡ reader_words = omega arith in sym (rw e at l.invariant.1)
+returns_2 c = let l = c.loop-i in let e : l.i ≡ reader_words = omega arith in sym (rw e at l.invariant.1)
 
 pub same_words_spec : {M : Type 1} → statement M
 same_words_spec =

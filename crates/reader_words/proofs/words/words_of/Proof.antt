@@ -22,7 +22,7 @@ array_write_words_3 : tie.Need-bounds-words-42
 array_write_words_3 c = search rules
 
 returns : tie.Need-returns
-returns c = let s = c in written s.args.r s.args.item.now s.args.file.now s.requires c.pack_front.new.words c.pack_front-2.new.words c.bit.result c.pack_front.ensures c.pack_front-2.ensures c.bit.ensures.0
+returns c = written c.args.r c.args.item.now c.args.file.now c.requires c.pack_front.new.words c.pack_front-2.new.words c.bit.result c.pack_front.ensures c.pack_front-2.ensures c.bit.ensures.0
 
 pub words_of_spec : {M : Type 1} → statement M
 words_of_spec =

@@ -16,8 +16,7 @@ words_of_requires c κs = search rules
 answer_bits_requires : tie.Need-answer_bits-requires
 answer_bits_requires c κs =
     let x = c.args in
-    let v = c in
-    append_fits x.bytes.now x.file.now (v.session_in.result, x.log.now) v.append-appended.ensures
+    append_fits x.bytes.now x.file.now (c.session_in.result, x.log.now) c.append-appended.ensures
 
 same_length : tie.Need-shape_of-log
 same_length c = search rules
@@ -25,9 +24,8 @@ same_length c = search rules
 returns : tie.Need-returns
 returns c =
     let x = c.args in
-    let v = c in
-    let f = v.session_in in
-    append_kept x.bytes.now x.file.now x.log.now x.session.now f.result f.ensures v.append-appended.ensures
+    let f = c.session_in in
+    append_kept x.bytes.now x.file.now x.log.now x.session.now f.result f.ensures c.append-appended.ensures
     c.words_of.ensures c.answer_bits.ensures
 
 pub append_words_spec : {M : Type 1} → statement M

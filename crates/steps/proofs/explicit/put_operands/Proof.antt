@@ -48,8 +48,7 @@ parts_of_requires c κs = search rules
 
 loop_holds : tie.Need-loop-rest-init invariant-loop decreases-loop
 loop_holds c =
-    let s = c in
-    (c.parts_of-rest.ensures.1, begun s.args.x s.args.at s.args.log.now c.parts_of-rest.ensures.0 s.requires.1 s.well_formed.0.0)
+    (c.parts_of-rest.ensures.1, begun c.args.x c.args.at c.args.log.now c.parts_of-rest.ensures.0 c.requires.1 c.well_formed.0.0)
 
 cast_part : tie.Need-overflow_cast-part invariant-loop decreases-loop
 cast_part c = record { fits = omega (arith, (small c).0) }

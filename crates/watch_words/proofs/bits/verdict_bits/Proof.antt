@@ -14,9 +14,8 @@ ahead :
     let at = c.args.at in
     let next = c.in-Named.next in (at < next) × (next - at ≤ 10)
 ahead c =
-    let s = c in
-    let x = s.args in
-    name_leads (variable x.address x.length) x.log.now x.at (sym s.name_event-found.ensures ∙ c.in-Named.is)
+    let x = c.args in
+    name_leads (variable x.address x.length) x.log.now x.at (sym c.name_event-found.ensures ∙ c.in-Named.is)
 
 name_event_requires : tie.Need-name_event-found-requires
 name_event_requires c κs = search rules

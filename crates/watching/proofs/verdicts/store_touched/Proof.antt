@@ -30,8 +30,7 @@ touches_requires c κs = tt
 with_low_requires : tie.Need-with_low-bits-requires invariant-loop decreases-loop
 with_low_requires c κs =
     let l = c.loop-i in
-    let s = c in
-    rw l.invariant.1 (bits_few (touching s.args.v s.args.a s.args.n) s.args.v.length l.i s.requires c.loop-i-test.true)
+    rw l.invariant.1 (bits_few (touching c.args.v c.args.a c.args.n) c.args.v.length l.i c.requires c.loop-i-test.true)
 
 loop_less : tie.Need-loop-i-smaller invariant-loop decreases-loop
 loop_less c = omega arith

@@ -22,19 +22,19 @@ sub_if2 : tie.Need-overflow_sub-size
 sub_if2 c = search rules
 
 returns : tie.Need-returns-then-v-size
-returns c = let s = c in let x = s.args in store_whole x.v x.a x.n (search rules) (search rules) s.requires.0 s.requires.1 _ (after c.before.before.before) c.if-after-size.true c.if-v-size.true
+returns c = let x = c.args in store_whole x.v x.a x.n (search rules) (search rules) c.requires.0 c.requires.1 _ (after c.before.before.before) c.if-after-size.true c.if-v-size.true
 
 returns_2 : tie.Need-returns-then-after-size
-returns_2 c = let s = c in let x = s.args in store_front x.v x.a x.n (search rules) (search rules) s.requires.0 s.requires.1 _ (after c.before.before.before) c.if-after-size.true c.if-v-size.false
+returns_2 c = let x = c.args in store_front x.v x.a x.n (search rules) (search rules) c.requires.0 c.requires.1 _ (after c.before.before.before) c.if-after-size.true c.if-v-size.false
 
 wrapping_sub_u64_requires_2 : tie.Need-wrapping_sub_u64-before-requires
 wrapping_sub_u64_requires_2 c κs = search rules
 
 returns_3 : tie.Need-returns-then-before-v
-returns_3 c = let s = c in let x = s.args in store_back x.v x.a x.n (search rules) (search rules) s.requires.0 s.requires.1 _ _ (after c.before.before.before.before) (before c.before.before) c.if-after-size.false c.if-before-v.true
+returns_3 c = let x = c.args in store_back x.v x.a x.n (search rules) (search rules) c.requires.0 c.requires.1 _ _ (after c.before.before.before.before) (before c.before.before) c.if-after-size.false c.if-before-v.true
 
 returns_4 : tie.Need-returns
-returns_4 c = let s = c in let x = s.args in store_none x.v x.a x.n (search rules) (search rules) s.requires.0 s.requires.1 _ _ (after c.before.before.before.before) (before c.before.before) c.if-after-size.false c.if-before-v.false
+returns_4 c = let x = c.args in store_none x.v x.a x.n (search rules) (search rules) c.requires.0 c.requires.1 _ _ (after c.before.before.before.before) (before c.before.before) c.if-after-size.false c.if-before-v.false
 
 pub store_verdict_spec : {M : Type 1} → statement M
 store_verdict_spec =

@@ -12,8 +12,7 @@ unknown_in_requires c κs = search rules
 
 add_t5 : tie.Need-overflow_add-result-2
 add_t5 c =
-    let s = c in
-    omega (arith, s.requires.1, c.unknown_in.ensures, unknown_one s.args.e)
+    omega (arith, c.requires.1, c.unknown_in.ensures, unknown_one c.args.e)
 
 returns : tie.Need-returns
 returns c = rw c.unknown_in.ensures
