@@ -1,5 +1,5 @@
 -- How an operand is used: two bits, the lower one for a read, the upper one for a write.
-use Rattle.std.specs.Prelude.{ℕ, List, [], ◌∷◌, Bool, get_or}
+use Rattle.std.specs.Prelude.{ℕ, [], ◌∷◌, Bool, get_or}
 use Rattle.laws.specs.Words.{bit}
 use Rattle.access.specs.declared.Access.{Access}
 use Rattle.access.specs.declared.Access.TheVariants.{None, Read, Write, ReadWrite}

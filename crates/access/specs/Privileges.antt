@@ -1,5 +1,5 @@
 -- Which privilege level an instruction needs.
-use Rattle.std.specs.Prelude.{ℕ, List, [], ◌∷◌, get_or}
+use Rattle.std.specs.Prelude.{ℕ, [], ◌∷◌, get_or}
 use Rattle.access.specs.declared.PrivilegeLevel.{PrivilegeLevel}
 use Rattle.access.specs.declared.PrivilegeLevel.TheVariants.{Any, PL0, Special, Reserved}
 

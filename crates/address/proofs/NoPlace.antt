@@ -1,5 +1,5 @@
 -- The implicit lists that touch no memory. Assumes nothing.
-use Rattle.std.proofs.Common.{◌≡◌, ℕ, ◌≤◌, Bool, true, false, ltb, ◌⊎◌, [], refl, inl, inr, zero-le, ltb-false, ltb-true}
+use Rattle.std.proofs.Common.{◌≡◌, ℕ, ◌≤◌, Bool, true, false, ltb, [], refl, inl, inr, zero-le, ltb-false, ltb-true}
 use lib.ListN.{get_or-eq_default}
 use Rattle.laws.proofs.Span.{span_but}
 use Rattle.registers.specs.declared.RegisterFile.{RegisterFile}

@@ -1,5 +1,5 @@
 -- The low 32 bits with their sign. Assumes nothing.
-use Rattle.std.proofs.Common.{ℕ, ◌≡◌, ◌+◌, ◌/◌, ◌%◌, ◌^◌, ◌<◌, ◌≤◌, add-zero, arith}
+use Rattle.std.proofs.Common.{ℕ, ◌≡◌, ◌+◌, ◌%◌, ◌<◌, ◌≤◌, add-zero, arith}
 use Rattle.laws.proofs.Bits.{bit_set, bit_clear}
 use Rattle.definition.specs.Addresses.{signed32}
 

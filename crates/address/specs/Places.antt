@@ -12,7 +12,6 @@ use Rattle.implicit.specs.declared.Entry.TheVariants.{Operand, Slot, End}
 use Rattle.record.specs.Records.{reg_at, address_size}
 use Rattle.record.specs.declared.Record.{Record}
 use Rattle.definition.specs.Addresses.{word, signed32, low_if, address_of, segment_register}
-use Rattle.definition.specs.declared.Address.{Address}
 use Rattle.definition.specs.declared.Term.TheVariants.{Absent, Plain, Scaled}
 use Rattle.address.specs.declared.places.Sources.{Sources}
 

@@ -1,16 +1,11 @@
 -- Every statement of specs/Promises.antt, proved: each part stands at bits of its own. Assumes nothing.
-use Prim.Native.Nat.{ℕ, ◌+◌, ◌<◌}
+use Prim.Native.Nat.{◌+◌}
 use native.Mathlib.Omega.{arith}
 use mathlib.Core.Path.{◌≡◌}
 use mathlib.Core.Bool.{Bool, true, false, cond}
-use Rattle.access.specs.Exceptions.{info_number, info_vectors}
-use Rattle.access.specs.Privileges.{level_number}
 use Rattle.access.proofs.Laws.{level_lt}
-use Rattle.digest.specs.Digests.{digest_number, digest_in}
-use Rattle.definition.specs.Behaviors.{privilege_number, privilege_in}
-use Rattle.definition.specs.Readings.{reading_number}
-use Rattle.definition.specs.Visits.{number_of, opcode_of, count_of}
-use Rattle.answers.specs.Answers.{at, length_from}
+use Rattle.definition.specs.Behaviors.{privilege_in}
+use Rattle.answers.specs.Answers.{at}
 use Rattle.answers.specs.Promises.{bits_at}
 use Rattle.answers.specs.Promises as promised
 

@@ -3,7 +3,7 @@ use Prim.Native.Nat.{ℕ, suc, ◌+◌, ◌*◌, ◌≤◌, ◌<◌}
 use native.Mathlib.Omega.{arith}
 use mathlib.Core.Path.{◌≡◌, refl, sym, ap, ◌∙◌}
 use mathlib.Core.List.{List, [], ◌∷◌}
-use mathlib.Core.Bool.{Bool, true, false}
+use mathlib.Core.Bool.{false}
 use lib.ListN.{length}
 use lib.Dec.{eqb}
 use borrow.Author.Tests.{ne_eqb}
@@ -21,7 +21,7 @@ use Rattle.promises.specs.Calls as calls
 use Rattle.promises.proofs.Outcomes.{number_is}
 use Rattle.promises.proofs.Proved.{more_known_refines_under}
 use Rattle.promises.proofs.Rooms.{visit_has_room}
-use Rattle.block.specs.Blocks.{is_seven, logged_by, Block, block_from}
+use Rattle.block.specs.Blocks.{is_seven, logged_by, block_from}
 use Rattle.block.specs.Promises.{sum_of, Beside, none, refused, logged}
 use Rattle.block.specs.Promises as promised
 use Rattle.block.proofs.Singles.{single}

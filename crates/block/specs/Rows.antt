@@ -1,6 +1,6 @@
 -- Rows of a block: records of a length under a file, over so many bytes of log from a start on, and so many bytes of answers, all 0xEE. What
 -- the call answers, and both buffers.
-use Rattle.std.specs.Prelude.{ℕ, List, [], ◌∷◌, ◌++◌, drop, set, replicate}
+use Rattle.std.specs.Prelude.{ℕ, List, [], ◌∷◌, ◌++◌, set, replicate}
 use Rattle.laws.specs.Lists.{flat}
 use Rattle.promises.specs.Bench.{P2, P2_file, P2_log}
 use Rattle.promises.specs.Rows.{Patch, record_with, file_knowing, put, opcode, count, specs, behavior, size, RegRRR, Disp, buffer, segment, everyday}

@@ -6,7 +6,7 @@ use Rattle.registers.specs.Files.{after, value_of}
 use Rattle.registers.specs.declared.RegSpec.{RegSpec}
 use Rattle.registers.specs.declared.RegisterFile.{RegisterFile}
 use Rattle.registers.specs.declared.Value.{Value}
-use Rattle.registers.specs.declared.Value.TheVariants.{Known, Unknown}
+use Rattle.registers.specs.declared.Value.TheVariants.{Known}
 use Rattle.record.specs.Records.{reg_at, address_size}
 use Rattle.record.specs.declared.Record.{Record}
 use Rattle.definition.specs.declared.Base.{Base}

@@ -1,5 +1,5 @@
 -- The digest after fix-ups, and what the calls on a record alone answer: digest, privilege, exceptions.
-use Rattle.std.specs.Prelude.{ℕ, ◌+◌, ◌^◌, List, [], ◌∷◌, Bool, true, false, not, cond, ◌&&◌, ◌||◌, take, ltb, leb, eqb}
+use Rattle.std.specs.Prelude.{ℕ, ◌+◌, ◌^◌, List, [], ◌∷◌, Bool, true, false, not, cond, ◌&&◌, take, ltb, leb, eqb}
 use Rattle.laws.specs.Tests.{any, some_of}
 use Rattle.access.specs.Exceptions.{info_of}
 use Rattle.access.specs.Privileges.{level_of}

@@ -1,5 +1,5 @@
 -- Listing: the items of a record in their order, their bytes, and the call. The record of an item is one after fix-ups.
-use Rattle.std.specs.Prelude.{ℕ, List, [], ◌∷◌, ◌++◌, Bool, not, cond, length, take, eqb}
+use Rattle.std.specs.Prelude.{ℕ, List, [], ◌∷◌, ◌++◌, cond, length, take, eqb}
 use Rattle.laws.specs.Words.{little}
 use Rattle.laws.specs.Tests.{first_of}
 use Rattle.laws.specs.Lists.{each, flat}

@@ -1,9 +1,9 @@
 -- What refusals 5, 6 and 7 ask. The record is one after fix-ups.
-use Rattle.std.specs.Prelude.{ℕ, ◌%◌, List, [], ◌∷◌, Bool, true, false, not, ◌&&◌, ◌||◌, length, ltb, eqb}
+use Rattle.std.specs.Prelude.{ℕ, List, [], ◌∷◌, Bool, true, false, not, ◌&&◌, ◌||◌, length, eqb}
 use Rattle.laws.specs.Lending.{lacks_room}
 use Rattle.laws.specs.Tests.{any, some_of, is_in}
 use Rattle.registers.specs.Banks.{is_register}
-use Rattle.record.specs.Records.{spec_at, reg_at}
+use Rattle.record.specs.Records.{spec_at}
 use Rattle.record.specs.declared.Record.{Record}
 use Rattle.definition.specs.Tables.{string_specs}
 use Rattle.definition.specs.Behaviors.{Operand, operands_of, is_memory}

@@ -1,9 +1,7 @@
 -- Document 01's numberings: what each spec and each opcode stands for.
 use Rattle.std.specs.Prelude.{ℕ, List, [], ◌∷◌, Bool, true, false, get_or}
 use Rattle.implicit.specs.Lists.{rdi, rsi, edi, esi}
-use Rattle.definition.specs.declared.Base.{Base}
 use Rattle.definition.specs.declared.Base.TheVariants.{NoBase, Based, Named, Destination}
-use Rattle.definition.specs.declared.Displacement.{Displacement}
 use Rattle.definition.specs.declared.Displacement.TheVariants.{NoDisp, Disp32, DispU64, DispU32}
 use Rattle.definition.specs.declared.Shape.{Shape}
 use Rattle.definition.specs.declared.Shape.TheVariants.{Nothing, Register, Fourth, Immediate, Memory}

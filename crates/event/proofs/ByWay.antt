@@ -4,7 +4,6 @@ use mathlib.Core.Path.{◌≡◌, refl}
 use mathlib.Core.List.{List, [], ◌∷◌, ◌++◌}
 use lib.ListN.{length, drop}
 use Rattle.laws.specs.Words.{little}
-use Rattle.laws.specs.Lists.{each}
 use Rattle.laws.specs.Lending.{size, Logged}
 use Rattle.laws.proofs.OneByOne.{one_size, logged}
 use Rattle.registers.specs.declared.RegSpec.{RegSpec}

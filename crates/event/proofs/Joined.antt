@@ -1,7 +1,7 @@
 -- Logs that read whole read whole one after the other, and no log has more events than bytes. Assumes nothing.
 use Prim.Native.Nat.{ℕ, ◌≤◌}
 use native.Mathlib.Omega.{arith}
-use mathlib.Core.List.{List, [], ◌∷◌, ◌++◌}
+use mathlib.Core.List.{List, ◌++◌}
 use lib.ListN.{length, drop, length-drop}
 use lib.Seq.{drop-append-le}
 use Rattle.definition.specs.declared.Event.{Event}

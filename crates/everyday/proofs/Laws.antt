@@ -11,8 +11,8 @@ use Rattle.digest.specs.Digests.{digest_in, digest_number}
 use Rattle.digest.specs.declared.BehaviorDigest.{BehaviorDigest}
 use Rattle.digest.specs.declared.DigestAnswer.{DigestAnswer}
 use Rattle.digest.specs.declared.DigestAnswer.TheVariants.{Done, Refused}
-use Rattle.everyday.specs.Rows.{rows, unlisted, lookup, everyday_digest, is_everyday}
-use Rattle.everyday.specs.Codes.{code_of, digest_from, code_at}
+use Rattle.everyday.specs.Rows.{rows, unlisted, lookup, everyday_digest}
+use Rattle.everyday.specs.Codes.{code_of, digest_from}
 
 abbrev Row : Type 0
 Row = ℕ × BehaviorDigest

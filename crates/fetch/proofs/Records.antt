@@ -3,7 +3,7 @@ use Prim.Native.Nat.{ℕ}
 use mathlib.Core.Path.{◌≡◌, refl, sym, ap, ◌∙◌}
 use mathlib.Core.List.{List, [], ◌∷◌}
 use mathlib.Core.Bool.{Bool, true, false, not}
-use lib.ListN.{length, replicate, set}
+use lib.ListN.{replicate, set}
 use lib.Dec.{eqb}
 use borrow.Author.Tests.{ne_eqb, eq-eqb, eqb-true, eqb-false}
 use Rattle.laws.specs.Words.{number_at}
@@ -11,10 +11,10 @@ use Rattle.laws.specs.Lists.{each}
 use Rattle.sets.specs.Sets.{joined}
 use Rattle.sets.proofs.Joined.{joined_append}
 use Rattle.registers.specs.Files.{file_kind, file_bytes, file_values, file_length, numbers_from, is_file, file_of, no_file}
-use Rattle.record.specs.Records.{record_of, record_refusal}
+use Rattle.record.specs.Records.{record_refusal}
 use Rattle.record.specs.declared.Record.{Record}
 use Rattle.definition.specs.Limits.{most_bytes}
-use Rattle.definition.specs.Behaviors.{complex, fixed_up, operands_of}
+use Rattle.definition.specs.Behaviors.{complex, operands_of}
 use Rattle.definition.specs.Refusals.{nameless, sizeless}
 use Rattle.definition.specs.Steps.{steps_of}
 use Rattle.definition.specs.Visits.{fixed_record, visit_by, number_of}

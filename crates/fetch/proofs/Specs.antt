@@ -1,6 +1,5 @@
 -- The base, the index and the segment of a spec, by runs of the table. Assumes nothing.
 use Prim.Native.Nat.{ℕ, ◌≤◌, ◌<◌, zero-le}
-use native.Mathlib.Omega.{arith}
 use mathlib.Core.Path.{◌≡◌, refl, sym, ap}
 use mathlib.Core.Logic.{inl, inr}
 use mathlib.Core.Bool.{Bool, true, false, cond}

@@ -14,7 +14,7 @@ use Rattle.registers.specs.Files.{file_of, part_of, slot_of, part_value, value_o
 use Rattle.registers.specs.declared.RegSpec.{RegSpec}
 use Rattle.registers.specs.declared.RegisterFile.{RegisterFile}
 use Rattle.registers.specs.declared.Value.TheVariants.{Known, Unknown}
-use Rattle.definition.specs.Addresses.{registers_of, address_of, segment_registers, based_of}
+use Rattle.definition.specs.Addresses.{registers_of, address_of, segment_registers}
 use Rattle.definition.specs.Steps.{Step, reads, writes, touches, steps_of}
 use Rattle.definition.specs.Logs.{step_events, events_of}
 use Rattle.definition.specs.Visits.{fixed_record, log_of, refusal_of, outcome, visit_by, visit_under}

@@ -8,7 +8,6 @@ use mathlib.Core.List.{List, [], ◌∷◌}
 use lib.ListN.{length, drop, length-drop}
 use lib.Dec.{eqb, leb}
 use borrow.Author.Tests.{eq-eqb, ne_eqb, eqb-true, leb-true, le-leb}
-use Rattle.laws.specs.Lists.{each}
 use Rattle.laws.specs.Lending.{size}
 use Rattle.laws.proofs.Choice.{and_left, and_right}
 use Rattle.definition.specs.Logs.{event_bytes}

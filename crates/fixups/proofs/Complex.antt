@@ -1,6 +1,5 @@
 -- Bit 5, and within 24 to 27 the first spec. Assumes nothing.
 use Prim.Native.Nat.{◌≤◌, ◌<◌}
-use native.Mathlib.Omega.{arith}
 use mathlib.Core.Path.{◌≡◌, sym, ◌∙◌}
 use mathlib.Core.Bool.{Bool, true, false, not, and-false}
 use lib.Dec.{eqb}

@@ -4,7 +4,6 @@ use Rattle.laws.specs.Lists.{flat}
 use Rattle.registers.specs.declared.RegSpec.{RegSpec}
 use Rattle.registers.specs.declared.Value.{Value}
 use Rattle.implicit.specs.Lists.{al, ax, cx, dx, eax, ecx, edx, edi, rax, rcx, rdx, rbx, rsp, rdi, xmm0}
-use Rattle.implicit.specs.declared.Way.{Way}
 use Rattle.implicit.specs.declared.Way.TheVariants.{Read, Write}
 use Rattle.record.specs.declared.Record.{Record}
 use Rattle.definition.specs.Steps.{slot_registers}

@@ -7,7 +7,6 @@ use borrow.Author.Tests.{eq-eqb, ne_eqb}
 use Rattle.laws.specs.Lists.{each}
 use Rattle.laws.specs.Lending.{size}
 use Rattle.implicit.specs.declared.Way.TheVariants.{Read}
-use Rattle.registers.specs.declared.RegSpec.{RegSpec}
 use Rattle.definition.specs.Logs.{event_bytes}
 use Rattle.definition.specs.Steps.{mask_registers}
 use Rattle.event.specs.Moves.{moved, move_event}

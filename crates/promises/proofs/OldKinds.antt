@@ -1,22 +1,20 @@
 -- The kinds that were there before T-10 answer as they did: a record that names no segment, and a file that knows no base, are the same
 -- record and the same file without those bytes. Assumes nothing.
-use Prim.Native.Nat.{ℕ, zero, suc, ◌+◌, ◌-◌, ◌*◌, ◌/◌, ◌%◌, ◌^◌, ◌<◌, ◌≤◌, zero-le}
+use Prim.Native.Nat.{ℕ, zero, suc, ◌+◌, ◌-◌, ◌/◌, ◌%◌, ◌^◌, ◌<◌, ◌≤◌, zero-le}
 use native.Mathlib.Nat.{not-suc-le-zero}
 use native.Mathlib.Omega.{arith}
-use mathlib.Core.Path.{◌≡◌, refl, sym, ap, ◌∙◌}
+use mathlib.Core.Path.{◌≡◌, refl}
 use mathlib.Core.Bool.{Bool, true, false, cond, ◌&&◌}
 use mathlib.Core.List.{List, [], ◌∷◌, ◌++◌}
 use lib.ListN.{length, length-append, get_or, get_or-append}
 use lib.Dec.{eqb, ltb, lit≤}
-use borrow.Author.Tests.{eqb-true, ltb-true, ltb-false, eq-eqb, lt-ltb, le-ltb}
+use borrow.Author.Tests.{eqb-true, ltb-true, eq-eqb, lt-ltb}
 use Rattle.laws.specs.Words.{number_at, bit}
-use Rattle.laws.specs.Tests.{first_of}
 use Rattle.laws.proofs.Choice.{and_left, and_right}
 use Rattle.laws.proofs.Span.{span}
-use Rattle.registers.specs.Files.{file_kind, based_kind, file_bytes, based_bytes, plain_slots, file_slots, file_values, file_length, numbers_from, file_of, is_file, part_of, slot_of, after, part_value, value_of}
+use Rattle.registers.specs.Files.{file_kind, based_kind, file_bytes, based_bytes, plain_slots, file_slots, file_values, file_length, numbers_from, file_of, is_file, part_of, slot_of, part_value, value_of}
 use Rattle.registers.specs.declared.RegSpec.{RegSpec}
 use Rattle.registers.specs.declared.RegisterFile.{RegisterFile}
-use Rattle.registers.specs.declared.Value.{Value}
 use Rattle.registers.specs.declared.Value.TheVariants.{Known, Unknown}
 use Rattle.record.specs.Records.{record_kind, segment_kind, record_bytes, record_length, is_record, record_digest, record_of, lacks_digest, record_refusal}
 use Rattle.definition.specs.Behaviors.{digest_call, privilege_call, exceptions_call}

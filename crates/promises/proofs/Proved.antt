@@ -1,18 +1,11 @@
 -- Every statement of specs/Promises.antt, proved.
-use Prim.Native.Nat.{ℕ, ◌+◌, ◌-◌, ◌≤◌}
-use native.Mathlib.Omega.{arith}
-use borrow.Author.Tests.{le-ltb}
-use mathlib.Core.Path.{◌≡◌, refl, sym, ◌∙◌}
-use mathlib.Core.List.{List, [], ◌∷◌, ◌++◌}
-use mathlib.Core.Bool.{Bool, true, false, not}
-use lib.ListN.{length}
-use Rattle.laws.specs.Tests.{first_of}
+use mathlib.Core.Path.{refl, sym, ◌∙◌}
+use mathlib.Core.List.{◌∷◌, ◌++◌}
+use mathlib.Core.Bool.{false, not}
 use Rattle.laws.proofs.Outcomes.{one_outcome}
 use Rattle.registers.specs.Files.{file_kind, based_kind, file_of, is_file}
-use Rattle.record.specs.Records.{is_record, record_of, outside}
-use Rattle.definition.specs.Behaviors.{complex}
+use Rattle.record.specs.Records.{record_of}
 use Rattle.definition.specs.Logs.{bytes_of}
-use Rattle.definition.specs.Refusals.{nameless, sizeless, no_room}
 use Rattle.definition.specs.Visits.{fixed_record, log_of, refusal_of, visit_by}
 use Rattle.definition.specs.Listings.{listing_of, listing_refusal, listing_call}
 use Rattle.definition.proofs.Bounds.{log_bytes_lem, log_events_lem}

@@ -1,5 +1,5 @@
 -- What a call answers, from what visiting answered. Assumes nothing.
-use Prim.Native.Nat.{ℕ, ◌+◌, ◌-◌, ◌^◌, ◌≤◌, ◌<◌}
+use Prim.Native.Nat.{ℕ, ◌+◌, ◌^◌, ◌≤◌, ◌<◌}
 use mathlib.Core.Path.{◌≡◌, sym, ap, ◌∙◌, subst}
 use mathlib.Core.List.{List, []}
 use mathlib.Core.Bool.{true, not}
@@ -10,7 +10,7 @@ use Rattle.definition.specs.Limits.{most_bytes}
 use Rattle.definition.specs.Visits.{visit_of, number_of, opcode_of, count_of}
 use Rattle.definition.specs.declared.Answer.{Answer}
 use Rattle.answers.proofs.Counts.{visit_fits}
-use Rattle.streams.specs.Cuts.{reader, Fed, waits, says}
+use Rattle.streams.specs.Cuts.{reader, Fed, waits}
 use Rattle.streams.specs.Streams.{Said, said_at, record_says, Outcome, finishing, outcome_of}
 use Rattle.streams.proofs.Driving.{Leaves, visit_leaves, splice_nothing}
 use Rattle.streams.proofs.Proved.{records_are_visited}

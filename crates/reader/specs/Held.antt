@@ -3,7 +3,7 @@
 use Rattle.std.specs.Prelude.{ℕ, ◌-◌, ◌^◌, ◌≤◌, ◌<◌, List, [], Bool, cond, ◌&&◌, ◌||◌, length, get_or, take, ltb, eqb}
 use Rattle.laws.specs.Lending.{splice}
 use Rattle.registers.specs.Files.{is_file}
-use Rattle.streams.specs.Cuts.{reader, halted}
+use Rattle.streams.specs.Cuts.{halted}
 use Rattle.streams.specs.Streams.{length_of, StreamReader, Outcome, feed}
 use Rattle.streams.specs.declared.Call.{Call}
 use Rattle.reader.specs.declared.chunks.Reader.{Reader}

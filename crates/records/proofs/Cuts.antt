@@ -1,15 +1,15 @@
 -- A walk along a list of records, from record i on. Assumes nothing.
 use Prim.Native.Nat.{ℕ, zero, suc, ◌+◌, ◌-◌, ◌*◌, ◌/◌, ◌%◌, ◌≤◌, ◌<◌}
 use native.Mathlib.Omega.{arith}
-use native.Mathlib.Nat.{zero-mul, suc-mul, add-mul, one-mul, sub-zero, mul-le-mul_right, div-add-mod', add_comm}
+use native.Mathlib.Nat.{zero-mul, suc-mul, add-mul, one-mul, sub-zero, mul-le-mul_right, div-add-mod'}
 use mathlib.Core.Path.{◌≡◌, refl, sym, ap, ◌∙◌}
 use mathlib.Core.List.{List, [], ◌∷◌}
-use mathlib.Core.Bool.{Bool, true, false, not, ◌||◌}
+use mathlib.Core.Bool.{Bool, true, false, ◌||◌}
 use lib.ListN.{length, take, drop}
-use lib.Dec.{ltb, eqb, lit≤}
+use lib.Dec.{eqb, lit≤}
 use lib.Seq.{drop-drop}
 use borrow.Author.Tests.{eqb-true, not-false, ltb-false}
-use Rattle.laws.specs.Tests.{any, is_in, first_of}
+use Rattle.laws.specs.Tests.{any, is_in}
 use Rattle.laws.proofs.Every.{first_zero}
 use Rattle.record.specs.Records.{everyday_bytes, record_bytes, segment_bytes}
 use Rattle.records.specs.Lists.{record_lengths, most_records, list_refusal, cut, records_in}

@@ -1,13 +1,12 @@
 -- What specs/Promises.antt promises. Assumes nothing.
-use Rattle.std.proofs.Common.{◌≡◌, ℕ, ◌+◌, ◌%◌, ◌<◌, ◌≤◌, not, List, [], ◌∷◌, ◌++◌, length, take, drop, sym, refl, ap, ◌∙◌, arith, length-append, length-take, length-take-le, take-add}
+use Rattle.std.proofs.Common.{◌≡◌, ℕ, ◌+◌, ◌%◌, ◌<◌, ◌≤◌, not, List, [], ◌∷◌, ◌++◌, length, take, drop, sym, refl, ap, ◌∙◌, arith, length-take, length-take-le, take-add}
 use Rattle.registers.specs.Files.{file_of, is_file}
 use Rattle.definition.specs.Addresses.{word}
 use Rattle.definition.specs.Readings.{Reads, end}
-use Rattle.definition.specs.Visits.{log_of, visit_by, visit_of}
+use Rattle.definition.specs.Visits.{log_of, visit_of}
 use Rattle.definition.specs.declared.Answer.{Answer}
 use Rattle.definition.specs.declared.Answer.TheVariants.{Done, Refused, Complex, Short}
 use Rattle.definition.specs.declared.Event.{Event}
-use Rattle.event.specs.Wholes.{all, whole_of}
 use Rattle.event.proofs.Wholes.{reads_whole}
 use Rattle.event.proofs.Joined.{reads_append, reads_few}
 use Rattle.promises.specs.Calls.{Refusal, by_number, by_opcode, by_room_lem}
@@ -16,9 +15,9 @@ use Rattle.promises.proofs.Rooms.{visit_past_end}
 use Rattle.promises.proofs.Whole.{visit_written, visit_inside, visit_reads}
 use Rattle.session.specs.declared.counts.Counts.{Counts}
 use Rattle.session.specs.declared.appends.Session.{Session}
-use Rattle.session.specs.Sessions.{empty, counts_of, further, session_after, Held, appended, Call, append, reset, after, after_all, Lent, Counted}
+use Rattle.session.specs.Sessions.{empty, counts_of, further, session_after, Held, appended, append, reset, after, after_all, Lent, Counted}
 use Rattle.session.specs.Promises as promised
-use Rattle.session.proofs.Sums.{summed, counts_append, counts_few}
+use Rattle.session.proofs.Sums.{counts_append, counts_few}
 
 pub nothing_wraps : promised.NothingWraps
 nothing_wraps s p c =

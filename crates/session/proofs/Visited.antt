@@ -1,12 +1,12 @@
 -- What an append gives, by what visiting answered. Assumes nothing.
-use Rattle.std.proofs.Common.{◌≡◌, ℕ, ◌+◌, ◌≤◌, not, ◌⊎◌, List, length, take, drop, sym, refl, ap, ◌∙◌, ⊎_elim, arith}
+use Rattle.std.proofs.Common.{◌≡◌, ℕ, ◌+◌, ◌≤◌, not, ◌⊎◌, List, length, take, drop, sym, ap, ◌∙◌, ⊎_elim, arith}
 use denote.Enum.Declared.{tag_of, declared}
 use Rattle.registers.specs.Files.{file_of, is_file}
 use Rattle.definition.specs.contracts.Answer.{enum}
 use Rattle.definition.specs.Visits.{log_of, visit_of}
 use Rattle.definition.specs.declared.Answer.{Answer}
 use Rattle.definition.specs.declared.Answer.TheVariants.{Done, Refused, Complex, Short}
-use Rattle.event.specs.Wholes.{Whole, events_in, whole_of}
+use Rattle.event.specs.Wholes.{events_in, whole_of}
 use Rattle.event.proofs.Wholes.{reads_whole}
 use Rattle.promises.proofs.Whole.{visit_written, visit_inside, visit_reads}
 use Rattle.session.specs.declared.appends.Session.{Session}

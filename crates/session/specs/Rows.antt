@@ -1,12 +1,11 @@
 -- Rows of a session: calls one after the other over one buffer, and after each the answer and the three counts.
-use Rattle.std.specs.Prelude.{ℕ, ◌-◌, List, [], ◌∷◌, ◌++◌, drop}
-use Rattle.definition.specs.Addresses.{word}
+use Rattle.std.specs.Prelude.{ℕ, List, [], ◌∷◌, ◌++◌, drop}
 use Rattle.definition.specs.declared.Answer.{Answer}
 use Rattle.definition.specs.declared.Answer.TheVariants.{Done, Refused, Complex, Short}
 use Rattle.promises.specs.Bench.{P2, P2_file, P2_log, P3_log}
-use Rattle.promises.specs.Rows.{Patch, record_with, file_knowing, buffer, put, opcode, count, specs, behavior, RegRRR, Disp}
+use Rattle.promises.specs.Rows.{Patch, record_with, file_knowing, put, opcode, count, specs, behavior, RegRRR, Disp}
 use Rattle.session.specs.declared.appends.Session.{Session}
-use Rattle.session.specs.Sessions.{empty, Held, appended, reset, after}
+use Rattle.session.specs.Sessions.{Held, appended, reset, after}
 
 pub data Ask : Type 0 where
   append : List Patch → List Patch → Ask

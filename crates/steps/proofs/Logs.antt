@@ -2,7 +2,7 @@
 -- registers. Assumes nothing.
 use mathlib.Core.Path.{◌≡◌, refl, ◌∙◌}
 use mathlib.Core.Bool.{Bool, true, false, cond}
-use mathlib.Core.List.{List, [], ◌∷◌, ◌++◌, append_assoc, append-nil}
+use mathlib.Core.List.{[], ◌∷◌, ◌++◌, append_assoc, append-nil}
 use Rattle.laws.specs.Lists.{each, flat}
 use Rattle.laws.proofs.Lists.{each_append}
 use Rattle.access.specs.Accesses.{reading, writing}
@@ -11,7 +11,7 @@ use Rattle.digest.specs.Digests.{flags_access}
 use Rattle.implicit.specs.Lists.{implicit_of}
 use Rattle.record.specs.declared.Record.{Record}
 use Rattle.definition.specs.Behaviors.{operands_of}
-use Rattle.definition.specs.Steps.{Step, reads, writes, rflags, entry_steps, operand_steps, flag_steps, steps_of}
+use Rattle.definition.specs.Steps.{reads, writes, rflags, entry_steps, operand_steps, flag_steps, steps_of}
 use Rattle.definition.specs.Logs.{step_events, events_of}
 use Rattle.definition.specs.declared.Event.TheVariants.{RegisterRead, RegisterWrite}
 use Rattle.address.specs.Places.{sources_of}

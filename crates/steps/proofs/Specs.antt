@@ -5,7 +5,7 @@ use mathlib.Core.Path.{◌≡◌, refl, sym, ap, ◌∙◌}
 use mathlib.Core.Bool.{Bool, true, false, cond}
 use mathlib.Core.List.{List, [], ◌∷◌, ◌++◌, map, append-nil}
 use lib.Dec.{eqb, ltb}
-use lib.ListN.{get_or, get_or-eq_default}
+use lib.ListN.{get_or-eq_default}
 use borrow.Author.Tests.{ltb-true, ltb-false, le-ltb}
 use Rattle.laws.specs.Lists.{each, flat}
 use Rattle.laws.proofs.Lists.{each_append}
@@ -22,7 +22,7 @@ use Rattle.record.specs.Records.{reg_at}
 use Rattle.record.specs.declared.Record.{Record}
 use Rattle.definition.specs.Tables.{shapes, shape_of}
 use Rattle.definition.specs.Addresses.{signed32, term_registers, registers_of, uncut, address_of, base_of, index_of, offset_of, operand_address, segment_register, segment_registers, based_on, based_of, segment_of}
-use Rattle.definition.specs.Steps.{Step, reads, writes, touches, mask_registers, mask_steps, mask_for, is_lea, fourth_of, widened, read_part, write_part}
+use Rattle.definition.specs.Steps.{Step, reads, writes, touches, mask_registers, mask_steps, mask_for, is_lea, fourth_of, read_part, write_part}
 use Rattle.definition.specs.Logs.{step_events, events_of, memory_event}
 use Rattle.definition.specs.declared.Address.{Address}
 use Rattle.definition.specs.declared.Base.{Base}

@@ -1,5 +1,5 @@
 -- The parts of explicit operands as events, from what the record's addresses are made of: no register file enters.
-use Rattle.std.specs.Prelude.{ℕ, zero, suc, ◌+◌, ◌*◌, ◌/◌, ◌%◌, ◌^◌, ◌≤◌, ◌≡◌, List, [], ◌∷◌, Bool, not, cond, ◌&&◌, length, get_or, ltb, eqb}
+use Rattle.std.specs.Prelude.{ℕ, zero, suc, ◌+◌, ◌*◌, ◌/◌, ◌%◌, ◌^◌, ◌≤◌, ◌≡◌, List, [], ◌∷◌, cond, length, get_or, ltb, eqb}
 use Rattle.laws.specs.Words.{bit}
 use Rattle.laws.specs.Lists.{flat}
 use Rattle.registers.specs.declared.Value.{Value}

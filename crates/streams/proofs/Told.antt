@@ -30,7 +30,7 @@ use Rattle.promises.specs.Calls.{Alike, refused, logged}
 use Rattle.promises.proofs.Demands.{by_refines}
 use Rattle.promises.proofs.Rooms.{room_enough}
 use Rattle.promises.proofs.Outcomes.{number_is, spliced}
-use Rattle.streams.specs.Cuts.{Saying, told, said_by, Told, before, Fed, waits, says, stops, told_of, fed_from, front_by, on_front, Front, ended, unknown, inside, whole}
+use Rattle.streams.specs.Cuts.{Saying, said_by, Told, before, Fed, waits, says, stops, told_of, fed_from, front_by, on_front, Front, ended, unknown, inside, whole}
 use Rattle.streams.specs.Streams.{length_of, of_file, Said, unknown_kind, bad_file, said_at, record_says, meaning, answers_of, Outcome, outcome_of, feed}
 use Rattle.streams.specs.Promises.{Sound, Taking, UnknownNext, Beside, nothing, records, files, bad, BadFile, logging, SaidRefines, same, AllRefine, none, one}
 use Rattle.streams.specs.Promises as promised

@@ -1,16 +1,16 @@
 -- The same visit at another place: in the part of a buffer that is lent, and aside. Assumes nothing.
 use Prim.Native.Nat.{ℕ, ◌+◌, ◌-◌, ◌≤◌, zero-le}
-use native.Mathlib.Nat.{zero-add, le_refl}
+use native.Mathlib.Nat.{zero-add}
 use native.Mathlib.Omega.{arith}
 use mathlib.Core.Path.{◌≡◌, refl, sym, ap, subst, ◌∙◌}
-use mathlib.Core.Bool.{Bool, true, false, cond, not}
+use mathlib.Core.Bool.{Bool, true, false, cond}
 use mathlib.Core.List.{List, [], ◌∷◌, ◌++◌, append_assoc}
 use lib.Dec.{eqb, lit≤}
 use lib.ListN.{length, take, drop, length-take, take-append-drop}
 use borrow.Rule.Slice.PartMut.{put_mid}
-use lib.Seq.{drop-drop, take_all, take_at}
+use lib.Seq.{drop-drop, take_at}
 use borrow.Author.Tests.{ne_eqb, eqb-true, eqb-false}
-use Rattle.laws.proofs.Room.{starts_inside, has_left, has_room, room_for_less}
+use Rattle.laws.proofs.Room.{has_left, has_room, room_for_less}
 use Rattle.laws.specs.Tests.{first_of}
 use Rattle.laws.specs.Lending.{lacks_room, splice}
 use Rattle.laws.proofs.Lending.{part, back, part_is, back_is, part_length}
@@ -18,8 +18,7 @@ use Rattle.registers.specs.declared.RegisterFile.{RegisterFile}
 use Rattle.record.specs.Records.{record_of, record_tests}
 use Rattle.definition.specs.Limits.{most_bytes}
 use Rattle.definition.specs.Behaviors.{complex}
-use Rattle.definition.specs.Steps.{steps_of}
-use Rattle.definition.specs.Logs.{events_of, bytes_of}
+use Rattle.definition.specs.Logs.{bytes_of}
 use Rattle.definition.specs.Refusals.{nameless, sizeless, no_room}
 use Rattle.definition.specs.Visits.{fixed_record, log_of, refusal_of, outcome, visit_by}
 use Rattle.definition.specs.declared.Answer.{Answer}

@@ -1,4 +1,3 @@
-use mathlib.Core.Path.{◌∙◌}
 use borrow.Author.Rules.{rules}
 use Rattle.everyday.specs.Codes.{code_at}
 use Rattle.everyday.proofs.Laws.{held}

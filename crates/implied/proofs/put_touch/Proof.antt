@@ -7,7 +7,7 @@ use Rattle.laws.specs.Lending.{size}
 use Rattle.laws.proofs.Lending.{Going, first, next, inside, fits, fits_first, ends, whole, keeps, back}
 use Rattle.definition.specs.Logs.{event_bytes}
 use Rattle.definition.specs.declared.Event.{Event}
-use Rattle.definition.specs.declared.Event.TheVariants.{RegisterRead, RegisterWrite}
+use Rattle.definition.specs.declared.Event.TheVariants.{RegisterRead}
 use Rattle.definition.specs.Logs.{memory_event}
 use Rattle.implied.proofs.put_touch.Statement.{statement}
 use Rattle.implied.proofs.put_touch.Tie as tie

@@ -7,9 +7,9 @@ use Rattle.laws.specs.Lending.{size}
 use Rattle.laws.proofs.Lending.{Going, first, next, inside, fits, fits_first, ends, whole, keeps, back}
 use Rattle.definition.specs.Logs.{event_bytes}
 use Rattle.definition.specs.declared.Event.{Event}
-use Rattle.definition.specs.declared.Event.TheVariants.{RegisterRead, RegisterWrite}
+use Rattle.definition.specs.declared.Event.TheVariants.{RegisterRead}
 use Rattle.definition.specs.Logs.{memory_event}
-use Rattle.implicit.specs.declared.Way.TheVariants.{Read, Write}
+use Rattle.implicit.specs.declared.Way.TheVariants.{Read}
 use Rattle.implicit.specs.Lists.{rbx, al}
 use Rattle.implied.proofs.put_xlat.Statement.{statement}
 use Rattle.implied.proofs.put_xlat.Tie as tie

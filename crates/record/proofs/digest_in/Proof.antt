@@ -1,7 +1,5 @@
 use native.Mathlib.Omega.{arith}
-use mathlib.Core.Path.{◌∙◌}
 use borrow.Author.Rules.{rules}
-use Rattle.record.specs.Records.{record_digest}
 use Rattle.record.proofs.Laws.{listed_digest, own_digest}
 use Rattle.record.proofs.digest_in.Statement.{statement}
 use Rattle.record.proofs.digest_in.Tie as tie

@@ -1,5 +1,5 @@
 -- `PrivilegeLevel::from_bits` meets its contract: what is left of the four values of two bits is the last. Assumes nothing.
-use Prim.Native.Nat.{ℕ, ◌%◌}
+use Prim.Native.Nat.{◌%◌}
 use native.Mathlib.Omega.{arith}
 use mathlib.Core.Path.{◌≡◌, ap}
 use Rattle.access.specs.Privileges.{level_of}

@@ -1,7 +1,6 @@
 -- The refusals in their order, then the records. Assumes nothing.
-use Prim.Native.Nat.{ℕ}
 use native.Mathlib.Omega.{arith}
-use mathlib.Core.Path.{◌≡◌, sym, ap, ◌∙◌}
+use mathlib.Core.Path.{sym, ◌∙◌}
 use lib.ListN.{length}
 use Rattle.records.proofs.Cuts.{listed}
 use Rattle.block.proofs.Calls.{refused_call, called, by_list, by_file, by_room_lem, passed}

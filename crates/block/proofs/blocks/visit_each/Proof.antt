@@ -1,5 +1,5 @@
 -- The invariant: what the whole block tells is what is told from record i on. Assumes nothing.
-use Prim.Native.Nat.{ℕ, ◌+◌, ◌*◌, ◌-◌, ◌/◌, ◌^◌, ◌≤◌, ◌<◌, zero-le}
+use Prim.Native.Nat.{ℕ, ◌+◌, ◌*◌, ◌-◌, ◌^◌, ◌≤◌, ◌<◌, zero-le}
 use native.Mathlib.Nat.{le_refl}
 use native.Mathlib.Omega.{arith}
 use mathlib.Core.Path.{◌≡◌, refl, sym, ap, ◌∙◌}
@@ -80,8 +80,7 @@ visit c =
 
 put_answer_requires : tie.Need-put_answer-requires invariant-loop decreases-loop
 put_answer_requires c κs =
-    let l = c.loop-i in
-    (
+    let l = c.loop-i in (
       omega (arith, part_length l.answers (answer_bytes * l.i), l.invariant.3, c.requires.1, c.loop-i-test.true),
       count_byte _ _ _ _ (visit c.before.before.before),
     )

@@ -1,5 +1,4 @@
 -- The invariant: joined with the needs of the operands from i on, the set is that of all. Assumes nothing.
-use borrow.Author.Rules.{rules}
 use native.Mathlib.Omega.{arith}
 use Prim.Native.Nat.{◌-◌}
 use mathlib.Core.Path.{◌≡◌, refl, ◌∙◌}

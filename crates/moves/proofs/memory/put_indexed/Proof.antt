@@ -7,7 +7,7 @@ use Rattle.laws.specs.Lending.{size, Logged}
 use Rattle.laws.proofs.Lending.{Going, first, next, inside, fits, fits_first, ends, whole, keeps, back, part}
 use Rattle.definition.specs.Logs.{event_bytes}
 use Rattle.definition.specs.declared.Event.{Event}
-use Rattle.definition.specs.declared.Event.TheVariants.{RegisterRead, RegisterWrite}
+use Rattle.definition.specs.declared.Event.TheVariants.{RegisterRead}
 use Rattle.record.specs.Records.{record_of, reg_at}
 use Rattle.moves.specs.Touches.{deref_events, indexed_events}
 use Rattle.moves.proofs.memory.put_indexed.Statement.{statement}

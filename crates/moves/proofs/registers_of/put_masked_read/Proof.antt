@@ -7,8 +7,8 @@ use Rattle.laws.specs.Lending.{size}
 use Rattle.laws.proofs.Lending.{Going, first, next, inside, fits, fits_first, ends, whole, keeps, back}
 use Rattle.definition.specs.Logs.{event_bytes}
 use Rattle.definition.specs.declared.Event.{Event}
-use Rattle.definition.specs.declared.Event.TheVariants.{RegisterRead, RegisterWrite}
-use Rattle.implicit.specs.declared.Way.TheVariants.{Read, Write}
+use Rattle.definition.specs.declared.Event.TheVariants.{RegisterRead}
+use Rattle.implicit.specs.declared.Way.TheVariants.{Read}
 use Rattle.definition.specs.Steps.{mask_registers}
 use Rattle.event.specs.Moves.{moved}
 use Rattle.moves.specs.Touches.{masked_events}

@@ -13,7 +13,7 @@ unfolding around
 put_requires c κs = fits_first word_bytes (letters c.args.before.now ∷ []) ((decimal c.args.n ∷ []) ∷ (letters c.args.after.now ∷ []) ∷ []) c.requires
 
 one :
-    (c : tie.After-put-a) → 
+    (c : tie.After-put-a) →
     Going word_bytes (around c.args.before.now c.args.n c.args.after.now) ((decimal c.args.n ∷ []) ∷ (letters c.args.after.now ∷ []) ∷ []) c.args.out.now c.put-a.new.out c.put-a.result
 unfolding around
 one c = first ((decimal c.args.n ∷ []) ∷ (letters c.args.after.now ∷ []) ∷ []) c.put-a.ensures c.requires c.well_formed.0.0
@@ -34,7 +34,7 @@ add_b : tie.Need-overflow_add-b
 add_b c = ends (one c.before.before.before.before.before.before) c.put_decimal.ensures
 
 two :
-    (c : tie.After-put_decimal) → 
+    (c : tie.After-put_decimal) →
     Going word_bytes (around c.args.before.now c.args.n c.args.after.now) ((letters c.args.after.now ∷ []) ∷ []) c.args.out.now (back c.put-a.new.out c.put-a.result c.put_decimal.new.out) (c.put-a.result + c.put_decimal.result)
 two c = next (one c.before.before.before.before) c.put_decimal.ensures
 

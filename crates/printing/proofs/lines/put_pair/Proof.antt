@@ -14,7 +14,7 @@ unfolding pair_line
 put_around_requires c κs = fits_first word_bytes (around c.args.before.now c.args.m c.args.between.now) ((around [] c.args.n (ascii "\n")) ∷ []) c.requires
 
 one :
-    (c : tie.After-put_around-a) → 
+    (c : tie.After-put_around-a) →
     Going word_bytes (pair_line c.args.before.now c.args.m c.args.between.now c.args.n) ((around [] c.args.n (ascii "\n")) ∷ []) c.args.out.now c.put_around-a.new.out c.put_around-a.result
 unfolding pair_line
 one c = first ((around [] c.args.n (ascii "\n")) ∷ []) c.put_around-a.ensures c.requires c.well_formed.0.0
@@ -42,7 +42,7 @@ same_length : tie.Need-shape_of-out
 same_length c = search rules
 
 two :
-    (c : tie.After-put_around) → 
+    (c : tie.After-put_around) →
     Going word_bytes (pair_line c.args.before.now c.args.m c.args.between.now c.args.n) ([]) c.args.out.now (back c.put_around-a.new.out c.put_around-a.result c.put_around.new.out) (c.put_around-a.result + c.put_around.result)
 unfolding ascii
 two c = next (one c.before.before.before.before.before.before.before.before) c.put_around.ensures

@@ -69,7 +69,7 @@ same_length : tie.Need-shape_of-out
 same_length c = search rules
 
 three :
-    (c : tie.After-put_counts-2) → 
+    (c : tie.After-put_counts-2) →
     Going word_bytes (counts_text c.args.words.now) ([]) c.args.out.now (back (back c.put_counts-a.new.out c.put_counts-a.result c.put_counts.new.out) (c.put_counts-a.result + c.put_counts.result) c.put_counts-2.new.out) ((c.put_counts-a.result + c.put_counts.result) + c.put_counts-2.result)
 unfolding ascii
 three c = next (two c.before.before.before.before.before.before) c.put_counts-2.ensures

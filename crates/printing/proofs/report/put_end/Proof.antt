@@ -19,7 +19,7 @@ unfolding end_text ascii
 put_around_requires c κs = fits_first word_bytes (line (ascii "in ") (get_or c.args.words.now in_word 0)) ((line (ascii "out ") (get_or c.args.words.now out_word 0)) ∷ (pair_line (ascii "part ") (get_or c.args.words.now part_word 0) (ascii "/") (get_or c.args.words.now known_word 0)) ∷ []) c.requires
 
 one :
-    (c : tie.After-put_around-a) → 
+    (c : tie.After-put_around-a) →
     Going word_bytes (end_text c.args.words.now) ((line (ascii "out ") (get_or c.args.words.now out_word 0)) ∷ (pair_line (ascii "part ") (get_or c.args.words.now part_word 0) (ascii "/") (get_or c.args.words.now known_word 0)) ∷ []) c.args.out.now c.put_around-a.new.out c.put_around-a.result
 unfolding end_text ascii
 one c = first ((line (ascii "out ") (get_or c.args.words.now out_word 0)) ∷ (pair_line (ascii "part ") (get_or c.args.words.now part_word 0) (ascii "/") (get_or c.args.words.now known_word 0)) ∷ []) c.put_around-a.ensures c.requires c.well_formed.0.0
@@ -47,7 +47,7 @@ unfolding ascii
 add_b c = ends (one c.before.before.before.before.before.before.before.before.before.before.before) c.put_around.ensures
 
 two :
-    (c : tie.After-put_around) → 
+    (c : tie.After-put_around) →
     Going word_bytes (end_text c.args.words.now) ((pair_line (ascii "part ") (get_or c.args.words.now part_word 0) (ascii "/") (get_or c.args.words.now known_word 0)) ∷ []) c.args.out.now (back c.put_around-a.new.out c.put_around-a.result c.put_around.new.out) (c.put_around-a.result + c.put_around.result)
 unfolding ascii
 two c = next (one c.before.before.before.before.before.before.before.before.before) c.put_around.ensures
@@ -81,7 +81,7 @@ same_length : tie.Need-shape_of-out
 same_length c = search rules
 
 three :
-    (c : tie.After-put_pair) → 
+    (c : tie.After-put_pair) →
     Going word_bytes (end_text c.args.words.now) ([]) c.args.out.now (back (back c.put_around-a.new.out c.put_around-a.result c.put_around.new.out) (c.put_around-a.result + c.put_around.result) c.put_pair.new.out) ((c.put_around-a.result + c.put_around.result) + c.put_pair.result)
 unfolding ascii
 three c = next (two c.before.before.before.before.before.before.before.before.before.before) c.put_pair.ensures

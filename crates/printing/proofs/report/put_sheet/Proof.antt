@@ -19,7 +19,7 @@ unfolding sheet_text ascii
 put_around_requires c κs = fits_first word_bytes (line (ascii "logs ") (get_or c.args.words.now logs_word 0)) ((counts_text c.args.words.now) ∷ (end_text c.args.words.now) ∷ []) c.requires
 
 one :
-    (c : tie.After-put_around-a) → 
+    (c : tie.After-put_around-a) →
     Going word_bytes (sheet_text c.args.words.now) ((counts_text c.args.words.now) ∷ (end_text c.args.words.now) ∷ []) c.args.out.now c.put_around-a.new.out c.put_around-a.result
 unfolding sheet_text ascii
 one c = first ((counts_text c.args.words.now) ∷ (end_text c.args.words.now) ∷ []) c.put_around-a.ensures c.requires c.well_formed.0.0
@@ -44,7 +44,7 @@ unfolding ascii
 add_b c = ends (one c.before.before.before.before.before.before) c.put_all_counts.ensures
 
 two :
-    (c : tie.After-put_all_counts) → 
+    (c : tie.After-put_all_counts) →
     Going word_bytes (sheet_text c.args.words.now) ((end_text c.args.words.now) ∷ []) c.args.out.now (back c.put_around-a.new.out c.put_around-a.result c.put_all_counts.new.out) (c.put_around-a.result + c.put_all_counts.result)
 unfolding ascii
 two c = next (one c.before.before.before.before) c.put_all_counts.ensures
@@ -72,7 +72,7 @@ same_length : tie.Need-shape_of-out
 same_length c = search rules
 
 three :
-    (c : tie.After-put_end) → 
+    (c : tie.After-put_end) →
     Going word_bytes (sheet_text c.args.words.now) ([]) c.args.out.now (back (back c.put_around-a.new.out c.put_around-a.result c.put_all_counts.new.out) (c.put_around-a.result + c.put_all_counts.result) c.put_end.new.out) ((c.put_around-a.result + c.put_all_counts.result) + c.put_end.result)
 unfolding ascii
 three c = next (two c.before.before.before.before) c.put_end.ensures

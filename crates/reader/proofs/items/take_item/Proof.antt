@@ -15,7 +15,7 @@ use Rattle.reader.proofs.items.take_item.Statement.{statement}
 use Rattle.reader.proofs.items.take_item.Tie as tie
 
 -- the item's length, by the byte that comes next
-long_is : (c : tie.After-length_of-long) → 
+long_is : (c : tie.After-length_of-long) →
     c.length_of-long.result ≡ length_of (get_or (take c.args.t.kept c.args.item.now ++ (get_or c.args.chunk.now c.args.t.taken 0 ∷ [])) 0 0)
 long_is c = c.length_of-long.ensures.0 ∙ ap length_of c.kind_of.ensures
 
@@ -33,7 +33,7 @@ taken c =
     (going c.args.t (length c.args.chunk.now) c.requires.1).1
 
 -- where they are laid
-filled : (c : tie.After-fill) → 
+filled : (c : tie.After-fill) →
     c.fill.new.place ≡ splice c.args.item.now c.args.t.kept (take c.smaller-n.result (drop c.args.t.taken c.args.chunk.now))
 filled c =
     let n = c.smaller-n.result in

@@ -49,7 +49,7 @@ loop_less : tie.Need-loop-i-smaller invariant-loop decreases-loop
 loop_less c = omega arith
 
 loop_again : tie.Need-loop-i-preserved invariant-loop decreases-loop
-loop_again c = let l = c.loop-i in 
+loop_again c = let l = c.loop-i in
     let next = one_laid c.args.words.now c.args.from c.args.out.now l.out c.put_u64.new.out l.i l.invariant.2 c.put_u64.ensures in
     (omega arith, laid_long c.args.words.now c.args.from c.args.out.now _ (l.i + 1) (omega (arith, c.requires.1)) next, next)
 

@@ -1,6 +1,6 @@
 use Rattle.definition.specs.Refusals.{no_slot, nameless}
 use Rattle.laws.specs.Tests.{any}
-use mathlib.Core.Bool.{or_assoc, or-false}
+use mathlib.Core.Bool.{or-false}
 use borrow.Author.Rules.{rules}
 use Rattle.refusals.proofs.refusals.is_nameless.Statement.{statement}
 use Rattle.refusals.proofs.refusals.is_nameless.Tie as tie

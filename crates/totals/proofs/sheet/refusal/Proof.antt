@@ -1,5 +1,5 @@
 use Rattle.std.proofs.Common.{sym, ◌∙◌, rules, le-ltb, lt-ltb, le-leb}
-use borrow.Author.Tests.{lt-leb, not-true, not-false}
+use borrow.Author.Tests.{lt-leb}
 use Rattle.totals.specs.Sheets.{refusal_of}
 use Rattle.totals.proofs.sheet.refusal.Statement.{statement}
 use Rattle.totals.proofs.sheet.refusal.Tie as tie

@@ -1,4 +1,4 @@
-use mathlib.Core.Path.{refl, sym, ap, ◌∙◌}
+use mathlib.Core.Path.{sym, ◌∙◌}
 use Rattle.laws.specs.Tests.{first_of}
 use Rattle.visiting.specs.Records.{first_refusal}
 use borrow.Author.Rules.{rules}
