@@ -2,7 +2,7 @@
 // stored are single bytes: the compiler makes one load or one store of each number.
 #![tactic(auto)]
 
-ghost use Rattle.std.specs.Prelude.{◌≡◌, ◌++◌, ◌+◌, ◌≤◌, ◌<◌, length, drop};
+ghost use Rattle.std.specs.Prelude.{ℕ, ◌≡◌, ◌++◌, ◌+◌, ◌≤◌, ◌<◌, length, drop, slice_index};
 ghost use Rattle.laws.specs.Lending.{lacks_room};
 ghost use Rattle.laws.specs.Words.{number_at, little};
 
@@ -68,7 +68,8 @@ fn wide(b: u8) -> u16
 
 // So many bytes, all of them 0. The `ensures` spares a caller a look at each of them.
 pub fn zeros<const N: usize>() -> [u8; N]
-    ensures { N ≡ length result }
+    ensures long { N ≡ length result }
+    ensures zero { (k : ℕ) → slice_index result k ≡ 0 }
 {
     [0; N]
 }
