@@ -4,3 +4,4 @@ pub mod Tests
 pub mod Lists
 pub mod Lending
 pub mod Outcomes
+pub mod Refusals

@@ -2,9 +2,13 @@
 // stored are single bytes: the compiler makes one load or one store of each number.
 #![tactic(auto)]
 
+mod refusals; // refusals.rt: why a call is refused, and its number
+
 ghost use Rattle.std.specs.Prelude.{ℕ, ◌≡◌, ◌++◌, ◌+◌, ◌≤◌, ◌<◌, length, drop, slice_index};
 ghost use Rattle.laws.specs.Lending.{lacks_room};
 ghost use Rattle.laws.specs.Words.{number_at, little};
+
+pub use refusals::Refusal;
 
 // The number of two bytes from place i on.
 pub fn u16_at(b: &[u8], i: usize) -> u16
