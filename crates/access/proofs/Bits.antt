@@ -35,6 +35,13 @@ module _ (v k : ℕ) where
 pub one_shifted : (k : ℕ) → k < 32 → 1 * 2 ^ k % 2 ^ 32 ≡ 2 ^ k
 one_shifted k h = shl_exact 1 k 32 (lit< tt) (omega arith) ∙ one-mul (2 ^ k)
 
+-- the number with its bit cleared, and then with the bit set, as the code computes them
+pub without_bit : (v k : ℕ) → k < 32 → v - own v k % 2 ^ 32 ≡ with_bit v k false
+without_bit v k h = rw (own_shifted v k h) (cleared v k)
+
+pub within_bit : (v k : ℕ) → k < 32 → v - own v k % 2 ^ 32 + 1 * 2 ^ k % 2 ^ 32 ≡ with_bit v k true
+within_bit v k h = rw (without_bit v k h, one_shifted k h) (filled v k)
+
 digit : (b : Bool) → cond b 1 0 < 2
 digit true = lit< tt
 digit false = lit< tt

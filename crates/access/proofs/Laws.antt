@@ -16,8 +16,8 @@ use Rattle.access.specs.declared.Access.TheVariants.{None, Read, Write, ReadWrit
 use Rattle.access.specs.declared.PrivilegeLevel.{PrivilegeLevel}
 use Rattle.access.specs.declared.PrivilegeLevel.TheVariants.{Any, PL0, Special, Reserved}
 use Rattle.access.specs.declared.ExceptionInfo.{ExceptionInfo}
-use Rattle.access.specs.declared.InfoAnswer.TheVariants as infos
-use Rattle.access.specs.declared.MayAnswer.TheVariants as mays
+use Rattle.std.specs.Prelude.{Ok, Err}
+use Rattle.laws.specs.declared.refusals.Refusal.TheVariants.{Outside}
 
 pub access_lt : (a : Access) → access_number a < 4
 access_lt None = lit< tt
@@ -61,18 +61,18 @@ pub level_one : (a b : PrivilegeLevel) → level_number a ≡ level_number b →
 level_one a b e = sym (level_back a) ∙ ap level_of e ∙ level_back b
 
 module _ (i : ExceptionInfo) (k : ℕ) where
-  pub set_taken : (b : Bool) → k ≤ 31 → set_of i k b ≡ infos.Done (info_of (with_bit i.vectors k b))
+  pub set_taken : (b : Bool) → k ≤ 31 → set_of i k b ≡ Ok (info_of (with_bit i.vectors k b))
   unfolding set_of
   set_taken b h = rw (le-ltb 31 k h)
 
-  pub set_refused : (b : Bool) → 31 < k → set_of i k b ≡ infos.Refused 2
+  pub set_refused : (b : Bool) → 31 < k → set_of i k b ≡ Err Outside
   unfolding set_of
   set_refused b h = rw (lt-ltb 31 k h)
 
-  pub may_taken : k ≤ 31 → may_of i k ≡ mays.Done (bit i.vectors k)
+  pub may_taken : k ≤ 31 → may_of i k ≡ Ok (bit i.vectors k)
   unfolding may_of
   may_taken h = rw (le-ltb 31 k h)
 
-  pub may_refused : 31 < k → may_of i k ≡ mays.Refused 2
+  pub may_refused : 31 < k → may_of i k ≡ Err Outside
   unfolding may_of
   may_refused h = rw (lt-ltb 31 k h)

@@ -20,21 +20,18 @@ impl Access {
     pub fn to_bits(self) -> u8
         ensures { result ≡ access_number self }
     {
-        match self {
-            Access::None => 0,
-            Access::Read => 1,
-            Access::Write => 2,
-            Access::ReadWrite => 3,
-        }
+        self as u8
     }
 
     // `ReadWrite` is a read, and a write too.
+    #[tactic(auto, unfolding(laws::specs::Words::bit))]
     pub fn is_read(self) -> bool
         ensures { result ≡ reading (access_number self) }
     {
         self.to_bits() % 2 == 1
     }
 
+    #[tactic(auto, unfolding(laws::specs::Words::bit))]
     pub fn is_write(self) -> bool
         ensures { result ≡ writing (access_number self) }
     {

@@ -1,11 +1,12 @@
 // Exception vectors, and sets of them.
 ghost use Rattle.std.specs.Prelude.{◌≡◌, ◌<◌};
-ghost use Rattle.access.specs.Exceptions.{exception_of, info_of, any_of, none_of, set_of, then_set, may_of, with_bit};
+ghost use Rattle.access.specs.Exceptions.{exception_of, info_of, any_of, none_of, set_of, may_of, with_bit};
 
-use crate::{Exception, ExceptionInfo, InfoAnswer, MayAnswer};
+use crate::{Exception, ExceptionInfo};
+use laws::Refusal;
 
 // A set has 32 bits.
-const LAST_VECTOR: u32 = 31;
+const LAST_VECTOR: u8 = 31;
 
 // Named as in the Intel manual's table of protected-mode exceptions, where 9 and 15 are reserved.
 impl Exception {
@@ -49,27 +50,31 @@ impl Exception {
     pub const VE: Exception = Exception { vector: 20 };
     // Control Protection Exception
     pub const CP: Exception = Exception { vector: 21 };
+}
 
-    pub fn vector(vector: u8) -> Exception
-        ensures { result ≡ exception_of vector }
-    {
-        Exception { vector: vector }
-    }
+impl From<u8> for Exception {
+    ghost from_gives = { λ v e. e ≡ exception_of v };
 
-    pub fn to_u8(self) -> u8
-        ensures { result ≡ self.vector }
-    {
-        self.vector
+    fn from(vector: u8) -> Exception {
+        Exception { vector }
     }
 }
 
-// Bit k of the vectors, set to b.
-fn with_bit(vectors: u32, k: u32, b: bool) -> u32
+impl From<Exception> for u8 {
+    ghost from_gives = { λ e v. v ≡ e.vector };
+
+    fn from(e: Exception) -> u8 {
+        e.vector
+    }
+}
+
+// A set with bit k set to b: a bit is taken off and then added, so that nothing carries.
+pub fn with_bit(set: u32, k: u8, b: bool) -> u32
     requires { k < 32 }
-    ensures { result ≡ with_bit vectors k b }
+    ensures { result ≡ with_bit set k b }
 {
-    let old = (vectors >> k) % 2;
-    let cleared = vectors - (old << k);
+    let old = (set >> k) % 2;
+    let cleared = set - (old << k);
     if b { cleared + (1 << k) } else { cleared }
 }
 
@@ -92,45 +97,26 @@ impl ExceptionInfo {
         !self.any()
     }
 
-    // Whether the exception may be raised. A vector above 31 is refused 2.
-    pub fn may(self, e: Exception) -> MayAnswer
+    // Whether the exception may be raised. A vector above 31 is refused.
+    #[tactic(auto, using(crate::proofs::Laws::may_taken, crate::proofs::Laws::may_refused))]
+    pub fn may(self, e: Exception) -> Result<bool, Refusal>
         ensures { result ≡ may_of self e.vector }
     {
-        let k = e.vector as u32;
-        if LAST_VECTOR < k {
-            return MayAnswer::Refused(2);
+        if LAST_VECTOR < e.vector {
+            return Err(Refusal::Outside);
         }
-        MayAnswer::Done((self.vectors >> k) % 2 == 1)
+        Ok(laws::is_set(self.vectors, e.vector))
     }
 
-    // The set with the exception in it or not, as b says. A vector above 31 is refused 2.
-    pub fn set(mut self, e: Exception, b: bool) -> InfoAnswer
+    // The set with the exception in it or not, as b says. A vector above 31 is refused.
+    #[tactic(auto, using(crate::proofs::Laws::set_taken, crate::proofs::Laws::set_refused))]
+    pub fn set(mut self, e: Exception, b: bool) -> Result<ExceptionInfo, Refusal>
         ensures { result ≡ set_of self e.vector b }
     {
-        let k = e.vector as u32;
-        if LAST_VECTOR < k {
-            return InfoAnswer::Refused(2);
+        if LAST_VECTOR < e.vector {
+            return Err(Refusal::Outside);
         }
-        self.vectors = with_bit(self.vectors, k, b);
-        InfoAnswer::Done(self)
-    }
-
-    // `set`, by the name that reads well in a chain.
-    pub fn with(self, e: Exception, b: bool) -> InfoAnswer
-        ensures { result ≡ set_of self e.vector b }
-    {
-        self.set(e, b)
-    }
-}
-
-// A chain of settings: the first refusal stands.
-impl InfoAnswer {
-    pub fn with(self, e: Exception, b: bool) -> InfoAnswer
-        ensures { result ≡ then_set self e.vector b }
-    {
-        match self {
-            InfoAnswer::Done(info) => info.set(e, b),
-            InfoAnswer::Refused(number) => InfoAnswer::Refused(number),
-        }
+        self.vectors = with_bit(self.vectors, e.vector, b);
+        Ok(self)
     }
 }

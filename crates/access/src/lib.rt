@@ -5,46 +5,34 @@ mod accesses;
 mod exceptions;
 mod privileges;
 
-// How an operand is used.
-#[derive(Clone, Copy)]
+pub use exceptions::with_bit;
+
+// How an operand is used: the lower bit of its number is a read, the upper one a write.
+#[derive(Clone, Copy, PartialEq, Eq)]
 pub enum Access {
-    None,
-    Read,
-    Write,
-    ReadWrite,
+    None = 0,
+    Read = 1,
+    Write = 2,
+    ReadWrite = 3,
 }
 
 // The privilege level that an instruction needs.
-#[derive(Clone, Copy)]
+#[derive(Clone, Copy, PartialEq, Eq)]
 pub enum PrivilegeLevel {
-    Any,
-    PL0,
-    Special,
-    Reserved,
+    Any = 0,
+    PL0 = 1,
+    Special = 2,
+    Reserved = 3,
 }
 
 // An exception vector, as the processor numbers them.
-#[derive(Clone, Copy)]
+#[derive(Clone, Copy, PartialEq, Eq)]
 pub struct Exception {
     pub vector: u8,
 }
 
 // A set of exception vectors: bit k for vector k.
-#[derive(Clone, Copy)]
+#[derive(Clone, Copy, PartialEq, Eq)]
 pub struct ExceptionInfo {
     pub vectors: u32,
-}
-
-// What setting a vector answers: the set, or a refusal number.
-#[derive(Clone, Copy)]
-pub enum InfoAnswer {
-    Done(ExceptionInfo),
-    Refused(u8),
-}
-
-// What asking for a vector answers.
-#[derive(Clone, Copy)]
-pub enum MayAnswer {
-    Done(bool),
-    Refused(u8),
 }

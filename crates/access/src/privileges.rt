@@ -20,11 +20,6 @@ impl PrivilegeLevel {
     pub fn to_bits(self) -> u8
         ensures { result ≡ level_number self }
     {
-        match self {
-            PrivilegeLevel::Any => 0,
-            PrivilegeLevel::PL0 => 1,
-            PrivilegeLevel::Special => 2,
-            PrivilegeLevel::Reserved => 3,
-        }
+        self as u8
     }
 }

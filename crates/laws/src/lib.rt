@@ -6,7 +6,7 @@ mod refusals; // refusals.rt: why a call is refused, and its number
 
 ghost use Rattle.std.specs.Prelude.{ℕ, ◌≡◌, ◌++◌, ◌+◌, ◌≤◌, ◌<◌, length, drop, slice_index};
 ghost use Rattle.laws.specs.Lending.{lacks_room};
-ghost use Rattle.laws.specs.Words.{number_at, little};
+ghost use Rattle.laws.specs.Words.{number_at, little, bit};
 
 pub use refusals::Refusal;
 
@@ -62,6 +62,15 @@ pub fn lacks_room(n: usize, start: usize, end: usize) -> bool
     ensures { result ≡ lacks_room n start end }
 {
     end < start || end - start < n
+}
+
+// Whether bit k of a number is set.
+#[tactic(auto, unfolding(crate::specs::Words::bit))]
+pub fn is_set(v: u32, k: u8) -> bool
+    requires { k < 32 }
+    ensures { result ≡ bit v k }
+{
+    (v >> k) % 2 == 1
 }
 
 fn wide(b: u8) -> u16
