@@ -12,7 +12,8 @@ use Rattle.access.proofs.Laws.{access_number_lem}
 use Rattle.access.specs.Fields.{field_at, with_field}
 use Rattle.access.proofs.Fields.{field_same, field_above, field_below, side_same, side_other, side_bound}
 use Rattle.digest.specs.declared.BehaviorDigest.{BehaviorDigest}
-use Rattle.digest.specs.declared.DigestAnswer.TheVariants.{Done, Refused}
+use Rattle.std.specs.Prelude.{Ok, Err}
+use Rattle.laws.specs.declared.refusals.Refusal.TheVariants.{Outside}
 use Rattle.digest.specs.Digests.{flags_access, access_at, with_behavior, with_access, with_list, operand_answer, list_answer}
 
 -- an operand's access, once it is set, and any other operand's
@@ -95,18 +96,18 @@ module _ (d : BehaviorDigest) where
   unfolding with_list
   list_extra l = refl
 
-  pub operand_taken : (i a : ℕ) → i ≤ 3 → operand_answer i a d ≡ Done (with_access i a d)
+  pub operand_taken : (i a : ℕ) → i ≤ 3 → operand_answer i a d ≡ Ok (with_access i a d)
   unfolding operand_answer
   operand_taken i a h = rw (le-ltb 3 i h)
 
-  pub operand_refused : (i a : ℕ) → 3 < i → operand_answer i a d ≡ Refused 2
+  pub operand_refused : (i a : ℕ) → 3 < i → operand_answer i a d ≡ Err Outside
   unfolding operand_answer
   operand_refused i a h = rw (lt-ltb 3 i h)
 
-  pub list_taken : (l : ℕ) → l ≤ 28 → list_answer l d ≡ Done (with_list l d)
+  pub list_taken : (l : ℕ) → l ≤ 28 → list_answer l d ≡ Ok (with_list l d)
   unfolding list_answer
   list_taken l h = rw (le-ltb 28 l h)
 
-  pub list_refused : (l : ℕ) → 28 < l → list_answer l d ≡ Refused 2
+  pub list_refused : (l : ℕ) → 28 < l → list_answer l d ≡ Err Outside
   unfolding list_answer
   list_refused l h = rw (lt-ltb 28 l h)

@@ -1,11 +1,12 @@
 -- The behavior digest: `behavior` has bits 0-1 privilege, 2-3 flags access, 4 nontrivial, 5 complex, and 6-7 ignored; `operands` has
 -- two bits of access for each operand, lowest first; `extra` is the number of the implicit list.
-use Rattle.std.specs.Prelude.{ℕ, ◌^◌, Bool, cond, ltb}
+use Rattle.std.specs.Prelude.{ℕ, ◌^◌, Bool, cond, ltb, Result, Ok, Err}
 use Rattle.laws.specs.Words.{bit}
+use Rattle.laws.specs.Refusals.{refused_by}
+use Rattle.laws.specs.declared.refusals.Refusal.{Refusal}
+use Rattle.laws.specs.declared.refusals.Refusal.TheVariants.{Outside}
 use Rattle.access.specs.Fields.{field_at, with_field}
 use Rattle.digest.specs.declared.BehaviorDigest.{BehaviorDigest}
-use Rattle.digest.specs.declared.DigestAnswer.{DigestAnswer}
-use Rattle.digest.specs.declared.DigestAnswer.TheVariants.{Done, Refused}
 
 abbrev pub empty_digest : BehaviorDigest
 empty_digest = record { behavior = 0; operands = 0; extra = 0 }
@@ -50,22 +51,21 @@ unfoldable pub with_list : ℕ → BehaviorDigest → BehaviorDigest
 with_list l d = record { behavior = d.behavior; operands = d.operands; extra = l }
 
 -- a setter's answers: an operand above 3 and a list above 28 are refused 2
-unfoldable pub operand_answer : ℕ → ℕ → BehaviorDigest → DigestAnswer
-operand_answer i a d = cond (ltb 3 i) (Refused 2) (Done (with_access i a d))
+unfoldable pub operand_answer : ℕ → ℕ → BehaviorDigest → Result BehaviorDigest Refusal
+operand_answer i a d = cond (ltb 3 i) (Err Outside) (Ok (with_access i a d))
 
-unfoldable pub list_answer : ℕ → BehaviorDigest → DigestAnswer
-list_answer l d = cond (ltb 28 l) (Refused 2) (Done (with_list l d))
+unfoldable pub list_answer : ℕ → BehaviorDigest → Result BehaviorDigest Refusal
+list_answer l d = cond (ltb 28 l) (Err Outside) (Ok (with_list l d))
 
 -- in a chain the first refusal stands
-abbrev pub then : DigestAnswer → (BehaviorDigest → DigestAnswer) → DigestAnswer
-then (Done d) f = f d
-then (Refused n) f = Refused n
+abbrev pub then : Result BehaviorDigest Refusal → (BehaviorDigest → Result BehaviorDigest Refusal) → Result BehaviorDigest Refusal
+then (Ok d) f = f d
+then (Err r) f = Err r
 
 -- document 01's number of an answer, and the digest that it carries: where it is refused every number is 0
-abbrev pub digest_number : DigestAnswer → ℕ
-digest_number (Done d) = 0
-digest_number (Refused n) = n
+abbrev pub digest_number : Result BehaviorDigest Refusal → ℕ
+digest_number a = refused_by a
 
-abbrev pub digest_in : DigestAnswer → BehaviorDigest
-digest_in (Done d) = d
-digest_in (Refused n) = empty_digest
+abbrev pub digest_in : Result BehaviorDigest Refusal → BehaviorDigest
+digest_in (Ok d) = d
+digest_in (Err r) = empty_digest

@@ -1,4 +1,5 @@
 -- The rows of the table, by opcode: no row, and what every row keeps to. Assumes nothing.
+use Rattle.std.specs.Prelude.{Result, Ok, Err}
 use Prim.Native.Nat.{ℕ, ◌/◌, ◌%◌, ◌≤◌}
 use mathlib.Core.Path.{◌≡◌, refl}
 use mathlib.Core.List.{List, [], ◌∷◌}
@@ -9,10 +10,10 @@ use Rattle.laws.specs.Tests.{any, some_of}
 use Rattle.laws.proofs.Every.{Every, every_weaken, any_false}
 use Rattle.digest.specs.Digests.{digest_in, digest_number}
 use Rattle.digest.specs.declared.BehaviorDigest.{BehaviorDigest}
-use Rattle.digest.specs.declared.DigestAnswer.{DigestAnswer}
-use Rattle.digest.specs.declared.DigestAnswer.TheVariants.{Done, Refused}
 use Rattle.everyday.specs.Rows.{rows, unlisted, lookup, everyday_digest}
 use Rattle.everyday.specs.Codes.{code_of, digest_from}
+use Rattle.laws.specs.declared.refusals.Refusal.{Refusal}
+use Rattle.laws.specs.declared.refusals.Refusal.TheVariants.{Unlisted}
 
 abbrev Row : Type 0
 Row = ℕ × BehaviorDigest
@@ -26,22 +27,22 @@ before : (X : Type 0) (o : ℕ) (rs : List Row) → Ruled X o rs → X
 before X o [] h = h
 before X o (r ∷ rs) h = (before (X × (o ≡ r.0 → ⊥)) o rs h).0
 
-pub no_row : (X : Type 0) (o : ℕ) (rs : List Row) → Ruled X o rs → lookup o rs ≡ Refused unlisted
+pub no_row : (X : Type 0) (o : ℕ) (rs : List Row) → Ruled X o rs → lookup o rs ≡ Err Unlisted
 no_row X o [] h = refl
 no_row X o (r ∷ rs) h =
     rw (ne_eqb o r.0 (before (X × (o ≡ r.0 → ⊥)) o rs h).1) (no_row (X × (o ≡ r.0 → ⊥)) o rs h)
 
 -- what holds of every row and of none holds of what is found
-found : (P : DigestAnswer → Type 0) (o : ℕ) (rs : List Row) → Every (λ (r : Row). P (Done r.1)) rs → P (Refused unlisted) → P (lookup o rs)
+found : (P : Result BehaviorDigest Refusal → Type 0) (o : ℕ) (rs : List Row) → Every (λ (r : Row). P (Ok r.1)) rs → P (Err Unlisted) → P (lookup o rs)
 found P o [] h none = none
 found P o (r ∷ rs) h none = by (eqb o r.0) (found P o rs h.1 none)
   where
-    by : (t : Bool) → P (lookup o rs) → P (cond t (Done r.1) (lookup o rs))
+    by : (t : Bool) → P (lookup o rs) → P (cond t (Ok r.1) (lookup o rs))
     by true later = h.0
     by false later = later
 
 -- the code of an answer holds its digest, and is 0 for none alone; its list has a number up to 28
-pub record Held (a : DigestAnswer) : Type 0 where
+pub record Held (a : Result BehaviorDigest Refusal) : Type 0 where
   pub digest : digest_from (code_of a) ≡ digest_in a
   pub there : not (eqb (code_of a) 0) ≡ eqb (digest_number a) 0
   pub list : (digest_in a).extra ≤ 28
@@ -50,18 +51,18 @@ pub record Held (a : DigestAnswer) : Type 0 where
 abbrev unheld : BehaviorDigest → Bool
 unheld d =
     some_of
-    (not (eqb (code_of (Done d) % 256) d.behavior)
-    ∷ not (eqb (code_of (Done d) / 256 % 256) d.operands)
-    ∷ not (eqb (code_of (Done d) / 65536) d.extra)
-    ∷ eqb (code_of (Done d)) 0
+    (not (eqb (code_of (Ok d) % 256) d.behavior)
+    ∷ not (eqb (code_of (Ok d) / 256 % 256) d.operands)
+    ∷ not (eqb (code_of (Ok d) / 65536) d.extra)
+    ∷ eqb (code_of (Ok d)) 0
     ∷ ltb 28 d.extra
     ∷ [])
 
-held_row : (d : BehaviorDigest) → unheld d ≡ false → Held (Done d)
+held_row : (d : BehaviorDigest) → unheld d ≡ false → Held (Ok d)
 held_row d e =
     let t = any_false (λ (t : Bool). t) _ e in
     record {
-      digest = rw (same (code_of (Done d) % 256) d.behavior t.0, same (code_of (Done d) / 256 % 256) d.operands t.1.0, same (code_of (Done d) / 65536) d.extra t.1.1.0);
+      digest = rw (same (code_of (Ok d) % 256) d.behavior t.0, same (code_of (Ok d) / 256 % 256) d.operands t.1.0, same (code_of (Ok d) / 65536) d.extra t.1.1.0);
       there = rw t.1.1.1.0;
       list = ltb-false 28 d.extra t.1.1.1.1.0;
     }
@@ -74,5 +75,5 @@ pub held : (o : ℕ) → Held (everyday_digest o)
 unfolding everyday_digest any
 held o =
     found Held o rows
-    (every_weaken (λ (r : Row). unheld r.1 ≡ false) (λ (r : Row). Held (Done r.1)) (λ (r : Row). held_row r.1) rows (any_false (λ (r : Row). unheld r.1) rows refl))
+    (every_weaken (λ (r : Row). unheld r.1 ≡ false) (λ (r : Row). Held (Ok r.1)) (λ (r : Row). held_row r.1) rows (any_false (λ (r : Row). unheld r.1) rows refl))
     (record { digest = refl; there = refl; list = lit≤ tt })

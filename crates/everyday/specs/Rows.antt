@@ -1,9 +1,9 @@
 -- The base digests of everyday integer code, by opcode, as document 02 writes them (T-11). All are for any privilege.
-use Rattle.std.specs.Prelude.{ℕ, ◌+◌, ◌*◌, List, [], ◌∷◌, Bool, cond, eqb}
+use Rattle.std.specs.Prelude.{ℕ, ◌+◌, ◌*◌, List, [], ◌∷◌, Bool, cond, eqb, Result, Ok, Err}
 use Rattle.digest.specs.Digests.{digest_number}
 use Rattle.digest.specs.declared.BehaviorDigest.{BehaviorDigest}
-use Rattle.digest.specs.declared.DigestAnswer.{DigestAnswer}
-use Rattle.digest.specs.declared.DigestAnswer.TheVariants.{Done, Refused}
+use Rattle.laws.specs.declared.refusals.Refusal.{Refusal}
+use Rattle.laws.specs.declared.refusals.Refusal.TheVariants.{Unlisted}
 
 -- bits 2 and 3 of a behavior, the access of the flags, and bit 4
 abbrev no_flags : ℕ
@@ -60,12 +60,12 @@ abbrev pub unlisted : ℕ
 unlisted = 9
 
 -- the row of an opcode
-abbrev pub lookup : ℕ → List (ℕ × BehaviorDigest) → DigestAnswer
-lookup o [] = Refused unlisted
-lookup o (r ∷ rs) = cond (eqb o r.0) (Done r.1) (lookup o rs)
+abbrev pub lookup : ℕ → List (ℕ × BehaviorDigest) → Result BehaviorDigest Refusal
+lookup o [] = Err Unlisted
+lookup o (r ∷ rs) = cond (eqb o r.0) (Ok r.1) (lookup o rs)
 
 -- the base digest of an opcode, or refusal 9
-unfoldable pub everyday_digest : ℕ → DigestAnswer
+unfoldable pub everyday_digest : ℕ → Result BehaviorDigest Refusal
 everyday_digest o = lookup o rows
 
 unfoldable pub is_everyday : ℕ → Bool

@@ -1,4 +1,5 @@
 -- What a record that is not refused keeps to, for those who call. Assumes nothing.
+use Rattle.std.specs.Prelude.{Ok}
 use Prim.Native.Nat.{ℕ, zero, suc, ◌+◌, ◌*◌, ◌%◌, ◌<◌, ◌≤◌}
 use native.Mathlib.Omega.{arith}
 use mathlib.Core.Path.{◌≡◌, refl, sym, ap, ◌∙◌}
@@ -13,7 +14,6 @@ use Rattle.laws.proofs.Choice.{and_left, and_right}
 use Rattle.laws.proofs.Every.{Every, every_at, every_weaken, any_false, first_zero}
 use Rattle.registers.specs.Banks.{reg, is_register}
 use Rattle.registers.specs.declared.RegSpec.{RegSpec}
-use Rattle.digest.specs.declared.DigestAnswer.TheVariants.{Done}
 use Rattle.digest.specs.Digests.{digest_in}
 use Rattle.everyday.specs.Rows.{unlisted, everyday_digest, is_everyday}
 use Rattle.everyday.proofs.Laws.{held}
@@ -101,7 +101,7 @@ module _ (b : List ℕ) where
   unfolding record_digest
   listed_digest e = rw (eq-eqb (get_or b 0 0) everyday_kind e)
 
-  pub own_digest : (get_or b 0 0 ≡ everyday_kind → ⊥) → record_digest b ≡ Done (brought_digest b)
+  pub own_digest : (get_or b 0 0 ≡ everyday_kind → ⊥) → record_digest b ≡ Ok (brought_digest b)
   unfolding record_digest
   own_digest ne = rw (ne_eqb (get_or b 0 0) everyday_kind ne)
 

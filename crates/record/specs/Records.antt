@@ -1,16 +1,15 @@
 -- A record, from its bytes.
-use Rattle.std.specs.Prelude.{ℕ, ◌+◌, ◌≤◌, ◌≡◌, List, [], ◌∷◌, Bool, not, cond, ◌&&◌, length, get_or, replicate, ltb, eqb}
+use Rattle.std.specs.Prelude.{ℕ, ◌+◌, ◌≤◌, ◌≡◌, List, [], ◌∷◌, Bool, not, cond, ◌&&◌, length, get_or, replicate, ltb, eqb, Result, Ok}
 use Rattle.laws.specs.Words.{number_at, bit}
 use Rattle.laws.specs.Tests.{any, some_of, first_of}
 use Rattle.registers.specs.Banks.{reg, is_register}
 use Rattle.registers.specs.declared.RegSpec.{RegSpec}
 use Rattle.digest.specs.Digests.{empty_digest, digest_number, digest_in}
 use Rattle.digest.specs.declared.BehaviorDigest.{BehaviorDigest}
-use Rattle.digest.specs.declared.DigestAnswer.{DigestAnswer}
-use Rattle.digest.specs.declared.DigestAnswer.TheVariants.{Done}
 use Rattle.everyday.specs.Rows.{unlisted, everyday_digest}
 use Rattle.record.specs.declared.Record.{Record}
 use Rattle.record.specs.declared.RecordAnswer.{RecordAnswer}
+use Rattle.laws.specs.declared.refusals.Refusal.{Refusal}
 
 -- the kinds of records, and their lengths: the second has one byte more, which names a segment; the third has no digest
 abbrev pub record_kind : ℕ
@@ -49,8 +48,8 @@ abbrev pub brought_digest : List ℕ → BehaviorDigest
 brought_digest b = record { behavior = get_or b 36 0; operands = get_or b 37 0; extra = number_at b 38 2 }
 
 -- the digest of a record: of its opcode where the kind has none, or refusal 9
-unfoldable pub record_digest : List ℕ → DigestAnswer
-record_digest b = cond (eqb (get_or b 0 0) everyday_kind) (everyday_digest (number_at b 1 2)) (Done (brought_digest b))
+unfoldable pub record_digest : List ℕ → Result BehaviorDigest Refusal
+record_digest b = cond (eqb (get_or b 0 0) everyday_kind) (everyday_digest (number_at b 1 2)) (Ok (brought_digest b))
 
 abbrev pub reg_from : List ℕ → ℕ → RegSpec
 reg_from b i = reg (get_or b i 0) (get_or b (i + 1) 0)
