@@ -1,9 +1,8 @@
 -- What a file says of the registers that a record's addresses are made of, and sums of what is known.
-use Rattle.std.specs.Prelude.{ℕ, ◌+◌, ◌*◌, ◌%◌, ◌^◌, false, List, [], ◌∷◌}
+use Rattle.std.specs.Prelude.{ℕ, ◌+◌, ◌*◌, ◌%◌, ◌^◌, false, List, [], ◌∷◌, Some, None}
 use Rattle.registers.specs.Files.{after, value_of}
 use Rattle.registers.specs.declared.RegisterFile.{RegisterFile}
-use Rattle.registers.specs.declared.Value.{Value}
-use Rattle.registers.specs.declared.Value.TheVariants.{Known, Unknown}
+use Rattle.registers.specs.Values.{Value}
 use Rattle.implicit.specs.Lists.{rdi, rsi, implicit_of}
 use Rattle.implicit.specs.declared.ImplicitOperand.{ImplicitOperand}
 use Rattle.implicit.specs.declared.ImplicitOperand.TheVariants.{Register, MemDeref, Disp, MemBaseIndexScale}
@@ -17,20 +16,20 @@ use Rattle.address.specs.declared.places.Sources.{Sources}
 
 -- sums of what is known: unknown where a term is
 abbrev pub plus_of : Value → ℕ → Value
-plus_of v n = after v (λ a. Known ((a + n) % word))
+plus_of v n = after v (λ a. Some ((a + n) % word))
 
 abbrev pub sum_of : Value → Value → Value
 sum_of u v = after u (λ a. plus_of v a)
 
 abbrev pub low_of : Value → Value
-low_of v = after v (λ a. Known (a % 2 ^ 32))
+low_of v = after v (λ a. Some (a % 2 ^ 32))
 
 abbrev pub scaled_of : Value → ℕ → Value
-scaled_of v k = after v (λ a. Known (a * k % word))
+scaled_of v k = after v (λ a. Some (a * k % word))
 
 -- where an explicit operand of a record lies, by its sum
 abbrev pub cut_of : Record → Value → Value
-cut_of x v = after v (λ a. Known (low_if (address_size x) a))
+cut_of x v = after v (λ a. Some (low_if (address_size x) a))
 
 -- where an implicit operand lies; a register lies nowhere, and there the others of its list decide
 unfoldable pub operand_place : RegisterFile → Value → ImplicitOperand → Value
@@ -45,7 +44,7 @@ entry_place f v (Slot i w) = v
 entry_place f v End = v
 
 unfoldable pub list_place : RegisterFile → List Entry → Value
-list_place f [] = Unknown
+list_place f [] = None
 list_place f (e ∷ es) = entry_place f (list_place f es) e
 
 -- where the memory of an implicit list lies: unknown for one that touches none

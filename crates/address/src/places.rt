@@ -33,7 +33,7 @@ fn implied_place(f: RegisterFile, list: u16) -> Value
         26 => plus(f.general(RSP.number), MINUS_8),
         27 => f.general(RSP.number),
         28 => sum(f.general(RBX.number), f.value(AL)),
-        _ => Value::Unknown,
+        _ => None,
     }
 }
 

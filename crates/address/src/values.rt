@@ -11,8 +11,8 @@ pub fn plus(v: Value, offset: u64) -> Value
     ensures { result ≡ plus_of v offset }
 {
     match v {
-        Value::Known(a) => Value::Known(std::num::wrapping_add_u64(a, offset)),
-        Value::Unknown => Value::Unknown,
+        Some(a) => Some(std::num::wrapping_add_u64(a, offset)),
+        None => None,
     }
 }
 
@@ -20,8 +20,8 @@ pub fn sum(u: Value, v: Value) -> Value
     ensures { result ≡ sum_of u v }
 {
     match u {
-        Value::Known(a) => plus(v, a),
-        Value::Unknown => Value::Unknown,
+        Some(a) => plus(v, a),
+        None => None,
     }
 }
 
@@ -30,8 +30,8 @@ pub fn low(v: Value) -> Value
     ensures { result ≡ low_of v }
 {
     match v {
-        Value::Known(a) => Value::Known(a % 0x1_0000_0000),
-        Value::Unknown => Value::Unknown,
+        Some(a) => Some(a % 0x1_0000_0000),
+        None => None,
     }
 }
 
@@ -40,8 +40,8 @@ pub fn scaled(v: Value, scale: u8) -> Value
     ensures { result ≡ scaled_of v scale }
 {
     match v {
-        Value::Known(a) => Value::Known(times(a, scale)),
-        Value::Unknown => Value::Unknown,
+        Some(a) => Some(times(a, scale)),
+        None => None,
     }
 }
 
@@ -52,7 +52,7 @@ pub fn cut(b: &[u8], v: Value) -> Value
 {
     let short = record::address_size_in(b);
     match v {
-        Value::Known(a) => Value::Known(low_if(short, a)),
-        Value::Unknown => Value::Unknown,
+        Some(a) => Some(low_if(short, a)),
+        None => None,
     }
 }

@@ -1,5 +1,6 @@
 -- No log needs over most_events events or most_bytes bytes: one bound over what a register event and a memory event cost. It holds for every
 -- record, refused or not, and every file. Assumes nothing.
+use Rattle.std.specs.Prelude.{Some, None}
 use Prim.Native.Nat.{ℕ, ◌+◌, ◌*◌, ◌≤◌, zero-le}
 use native.Mathlib.Omega.{arith}
 use native.Mathlib.Nat.{le_refl}
@@ -15,8 +16,7 @@ use Rattle.laws.specs.Lending.{size}
 use Rattle.access.specs.Accesses.{reading, writing}
 use Rattle.registers.specs.declared.RegSpec.{RegSpec}
 use Rattle.registers.specs.declared.RegisterFile.{RegisterFile}
-use Rattle.registers.specs.declared.Value.{Value}
-use Rattle.registers.specs.declared.Value.TheVariants.{Known, Unknown}
+use Rattle.registers.specs.Values.{Value}
 use Rattle.digest.specs.Digests.{flags_access}
 use Rattle.implicit.specs.Lists.{implicits, implicit_of}
 use Rattle.implicit.specs.declared.Way.{Way}
@@ -71,10 +71,10 @@ entry_cost n m entries.End = 0
 module _ (n m : ℕ) where
   memory_cost : (w : Way) (v : Value) (s : ℕ) → event_cost n m (memory_event w v s) ≡ m
   unfolding memory_event
-  memory_cost Read (Known a) s = refl
-  memory_cost Read Unknown s = refl
-  memory_cost Write (Known a) s = refl
-  memory_cost Write Unknown s = refl
+  memory_cost Read (Some a) s = refl
+  memory_cost Read None s = refl
+  memory_cost Write (Some a) s = refl
+  memory_cost Write None s = refl
 
   step_cost_lem : (f : RegisterFile) (s : Step) → weigh (event_cost n m) (step_events f s) ≤ step_cost n m s
   unfolding step_events flat

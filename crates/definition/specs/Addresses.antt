@@ -1,12 +1,11 @@
 -- Addresses: of which registers they are made, and where they lie under a register file.
-use Rattle.std.specs.Prelude.{ℕ, ◌+◌, ◌-◌, ◌*◌, ◌^◌, ◌%◌, List, [], ◌∷◌, ◌++◌, Bool, false, cond, eqb}
+use Rattle.std.specs.Prelude.{ℕ, ◌+◌, ◌-◌, ◌*◌, ◌^◌, ◌%◌, List, [], ◌∷◌, ◌++◌, Bool, false, cond, eqb, Some}
 use Rattle.laws.specs.Words.{bit}
 use Rattle.registers.specs.Banks.{fs, gs}
 use Rattle.registers.specs.Files.{after, value_of}
 use Rattle.registers.specs.declared.RegSpec.{RegSpec}
 use Rattle.registers.specs.declared.RegisterFile.{RegisterFile}
-use Rattle.registers.specs.declared.Value.{Value}
-use Rattle.registers.specs.declared.Value.TheVariants.{Known}
+use Rattle.registers.specs.Values.{Value}
 use Rattle.record.specs.Records.{reg_at, address_size}
 use Rattle.record.specs.declared.Record.{Record}
 use Rattle.definition.specs.declared.Base.{Base}
@@ -36,9 +35,9 @@ registers_of a = term_registers a.base ++ term_registers a.index
 
 -- what a term adds, unknown where its register is
 unfoldable pub term_of : RegisterFile → Term → Value
-term_of f Absent = Known 0
+term_of f Absent = Some 0
 term_of f (Plain y) = value_of f y
-term_of f (Scaled y k) = after (value_of f y) (λ v. Known (v * k % word))
+term_of f (Scaled y k) = after (value_of f y) (λ v. Some (v * k % word))
 
 -- the low 32 bits of an address that is cut
 abbrev pub low_if : Bool → ℕ → ℕ
@@ -54,7 +53,7 @@ uncut a = record { base = a.base; index = a.index; offset = a.offset; cut = fals
 
 -- unknown exactly where a register in it is
 unfoldable pub address_of : RegisterFile → Address → Value
-address_of f a = after (term_of f a.base) (λ u. after (term_of f a.index) (λ v. Known (place_of a u v)))
+address_of f a = after (term_of f a.base) (λ u. after (term_of f a.index) (λ v. Some (place_of a u v)))
 
 -- The address of a memory operand: base regs[1] or the register named, index regs[2] times scale, and the displacement; cut where the
 -- address-size bit is set
@@ -85,7 +84,7 @@ segment_registers s = cond (eqb s 0) [] (segment_register s ∷ [])
 
 -- where an access lies: its address, and the base of its segment added last
 abbrev pub based_on : Value → Value → Value
-based_on b v = after b (λ u. after v (λ a. Known ((a + u) % word)))
+based_on b v = after b (λ u. after v (λ a. Some ((a + u) % word)))
 
 unfoldable pub based_of : RegisterFile → ℕ → Value → Value
 based_of f s v = cond (eqb s 0) v (based_on (value_of f (segment_register s)) v)

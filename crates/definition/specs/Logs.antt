@@ -1,11 +1,10 @@
 -- The events and bytes of steps under a register file: the one place where a file enters.
-use Rattle.std.specs.Prelude.{ℕ, List, [], ◌∷◌, ◌++◌, map}
+use Rattle.std.specs.Prelude.{ℕ, List, [], ◌∷◌, ◌++◌, map, Some, None}
 use Rattle.laws.specs.Words.{little}
 use Rattle.laws.specs.Lists.{each, flat}
 use Rattle.registers.specs.declared.RegSpec.{RegSpec}
 use Rattle.registers.specs.declared.RegisterFile.{RegisterFile}
-use Rattle.registers.specs.declared.Value.{Value}
-use Rattle.registers.specs.declared.Value.TheVariants.{Known, Unknown}
+use Rattle.registers.specs.Values.{Value}
 use Rattle.implicit.specs.declared.Way.{Way}
 use Rattle.implicit.specs.declared.Way.TheVariants.{Read, Write}
 use Rattle.definition.specs.Addresses.{registers_of, address_of, segment_registers, based_of}
@@ -14,10 +13,10 @@ use Rattle.definition.specs.declared.Event.{Event}
 use Rattle.definition.specs.declared.Event.TheVariants.{RegisterRead, RegisterWrite, MemoryRead, MemoryWrite, UnknownRead, UnknownWrite}
 
 unfoldable pub memory_event : Way → Value → ℕ → Event
-memory_event Read (Known a) n = MemoryRead a n
-memory_event Read Unknown n = UnknownRead n
-memory_event Write (Known a) n = MemoryWrite a n
-memory_event Write Unknown n = UnknownWrite n
+memory_event Read (Some a) n = MemoryRead a n
+memory_event Read None n = UnknownRead n
+memory_event Write (Some a) n = MemoryWrite a n
+memory_event Write None n = UnknownWrite n
 
 -- all registers of an address and its base are logged, whether they are known or not
 unfoldable pub step_events : RegisterFile → Step → List Event

@@ -1,4 +1,5 @@
 -- The bytes of an event by its way. Assumes nothing.
+use Rattle.std.specs.Prelude.{Some, None}
 use Prim.Native.Nat.{ℕ, ◌≤◌}
 use mathlib.Core.Path.{◌≡◌, refl}
 use mathlib.Core.List.{List, [], ◌∷◌, ◌++◌}
@@ -7,7 +8,6 @@ use Rattle.laws.specs.Words.{little}
 use Rattle.laws.specs.Lending.{size, Logged}
 use Rattle.laws.proofs.OneByOne.{one_size, logged}
 use Rattle.registers.specs.declared.RegSpec.{RegSpec}
-use Rattle.registers.specs.declared.Value.TheVariants.{Known, Unknown}
 use Rattle.implicit.specs.declared.Way.{Way}
 use Rattle.implicit.specs.declared.Way.TheVariants.{Read, Write}
 use Rattle.definition.specs.Logs.{register_bytes, memory_bytes, unknown_bytes, event_bytes, memory_event}
@@ -19,12 +19,12 @@ unfolding event_bytes
 move_bytes Read y = refl
 move_bytes Write y = refl
 
-known_is : (w : Way) (a n : ℕ) → event_bytes (memory_event w (Known a) n) ≡ memory_bytes (kind_of w 3) a n
+known_is : (w : Way) (a n : ℕ) → event_bytes (memory_event w (Some a) n) ≡ memory_bytes (kind_of w 3) a n
 unfolding event_bytes memory_event
 known_is Read a n = refl
 known_is Write a n = refl
 
-unknown_is : (w : Way) (n : ℕ) → event_bytes (memory_event w Unknown n) ≡ unknown_bytes (kind_of w 5) n
+unknown_is : (w : Way) (n : ℕ) → event_bytes (memory_event w None n) ≡ unknown_bytes (kind_of w 5) n
 unfolding event_bytes memory_event
 unknown_is Read n = refl
 unknown_is Write n = refl
@@ -45,17 +45,17 @@ module _ (w : Way) (y : RegSpec) where
   move_logged e c b = event_logged (move_event w y) (register_bytes (kind_of w 1) y) (move_bytes w y) c (rw e at b)
 
 module _ (w : Way) (a s : ℕ) where
-  pub known_room : {k : ℕ} → size event_bytes (memory_event w (Known a) s ∷ []) ≤ k → 10 ≤ k
+  pub known_room : {k : ℕ} → size event_bytes (memory_event w (Some a) s ∷ []) ≤ k → 10 ≤ k
   unfolding little
-  known_room h = event_room (memory_event w (Known a) s) (memory_bytes (kind_of w 3) a s) (known_is w a s) h
+  known_room h = event_room (memory_event w (Some a) s) (memory_bytes (kind_of w 3) a s) (known_is w a s) h
 
-  pub known_logged : {k n : ℕ} {old new : List ℕ} → k ≡ kind_of w 3 → n ≡ 10 → new ≡ memory_bytes k a s ++ drop 10 old → Logged event_bytes (memory_event w (Known a) s ∷ []) old new n
+  pub known_logged : {k n : ℕ} {old new : List ℕ} → k ≡ kind_of w 3 → n ≡ 10 → new ≡ memory_bytes k a s ++ drop 10 old → Logged event_bytes (memory_event w (Some a) s ∷ []) old new n
   unfolding little
-  known_logged e c b = event_logged (memory_event w (Known a) s) (memory_bytes (kind_of w 3) a s) (known_is w a s) c (rw e at b)
+  known_logged e c b = event_logged (memory_event w (Some a) s) (memory_bytes (kind_of w 3) a s) (known_is w a s) c (rw e at b)
 
 module _ (w : Way) (s : ℕ) where
-  pub unknown_room : {k : ℕ} → size event_bytes (memory_event w Unknown s ∷ []) ≤ k → 2 ≤ k
-  unknown_room h = event_room (memory_event w Unknown s) (unknown_bytes (kind_of w 5) s) (unknown_is w s) h
+  pub unknown_room : {k : ℕ} → size event_bytes (memory_event w None s ∷ []) ≤ k → 2 ≤ k
+  unknown_room h = event_room (memory_event w None s) (unknown_bytes (kind_of w 5) s) (unknown_is w s) h
 
-  pub unknown_logged : {k n : ℕ} {old new : List ℕ} → k ≡ kind_of w 5 → n ≡ 2 → new ≡ unknown_bytes k s ++ drop 2 old → Logged event_bytes (memory_event w Unknown s ∷ []) old new n
-  unknown_logged e c b = event_logged (memory_event w Unknown s) (unknown_bytes (kind_of w 5) s) (unknown_is w s) c (rw e at b)
+  pub unknown_logged : {k n : ℕ} {old new : List ℕ} → k ≡ kind_of w 5 → n ≡ 2 → new ≡ unknown_bytes k s ++ drop 2 old → Logged event_bytes (memory_event w None s ∷ []) old new n
+  unknown_logged e c b = event_logged (memory_event w None s) (unknown_bytes (kind_of w 5) s) (unknown_is w s) c (rw e at b)

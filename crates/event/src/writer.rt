@@ -34,13 +34,13 @@ pub fn put_memory(log: &mut [u8], way: Way, at: Value, n: u8) -> usize
     ensures { Logged event_bytes (memory_event way at n ∷ []) log.old log.new result }
 {
     match at {
-        Value::Known(a) => {
+        Some(a) => {
             log[0] = kind_of(way, 3);
             laws::put_u64(&mut log[1..], a);
             log[9] = n;
             10
         }
-        Value::Unknown => {
+        None => {
             log[0] = kind_of(way, 5);
             log[1] = n;
             2

@@ -1,4 +1,5 @@
 -- Nothing is lost under a file that answers the registers of an accepted set as before. Assumes nothing.
+use Rattle.std.specs.Prelude.{Some, None}
 use Prim.Native.Nat.{ℕ, ◌≤◌}
 use native.Mathlib.Nat.{zero-add}
 use mathlib.Core.Path.{◌≡◌, refl, sym, ap₂, ◌∙◌}
@@ -13,7 +14,6 @@ use Rattle.laws.specs.Lists.{each, flat}
 use Rattle.registers.specs.Files.{file_of, part_of, slot_of, part_value, value_of}
 use Rattle.registers.specs.declared.RegSpec.{RegSpec}
 use Rattle.registers.specs.declared.RegisterFile.{RegisterFile}
-use Rattle.registers.specs.declared.Value.TheVariants.{Known, Unknown}
 use Rattle.definition.specs.Addresses.{registers_of, address_of, segment_registers}
 use Rattle.definition.specs.Steps.{Step, reads, writes, touches, steps_of}
 use Rattle.definition.specs.Logs.{step_events, events_of}
@@ -29,7 +29,7 @@ use Rattle.fetching.proofs.Alone.{never_7, refused_anyhow}
 use Rattle.fetching.proofs.Judged.{judge_is_right}
 
 -- no file answers a slot behind its registers
-pub slot_behind : (f : RegisterFile) (k : ℕ) → held_registers ≤ k → slot_of f k ≡ Unknown
+pub slot_behind : (f : RegisterFile) (k : ℕ) → held_registers ≤ k → slot_of f k ≡ None
 unfolding slot_of
 slot_behind f k h = rw (le-ltb k held_registers h)
 
@@ -115,10 +115,10 @@ module _ (v : ℕ) (f : RegisterFile) (k : ℕ) where
   by_tests false true b x y = refl
   by_tests false false b x y = refl
 
-  slot_restricted : slot_of (restricted v f) k ≡ cond (bit v k) (slot_of f k) Unknown
+  slot_restricted : slot_of (restricted v f) k ≡ cond (bit v k) (slot_of f k) None
   unfolding slot_of
   slot_restricted =
-      rw (known_kept, values_kept) (by_tests (ltb k held_registers) (bit v k) (bit f.known k) (Known (get_or f.values k 0)) Unknown)
+      rw (known_kept, values_kept) (by_tests (ltb k held_registers) (bit v k) (bit f.known k) (Some (get_or f.values k 0)) None)
 
 pub restricted_is : RestrictedIs
 restricted_is v f k = (λ e. slot_restricted v f k ∙ rw e, λ e. slot_restricted v f k ∙ rw e)

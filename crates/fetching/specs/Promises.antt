@@ -1,13 +1,12 @@
 -- WHAT IS PROMISED of the judge and the proposer, each statement after its sentence. proofs/Proved.antt proves them all; nothing is
 -- assumed.
-use Rattle.std.specs.Prelude.{ℕ, ◌+◌, ◌^◌, ◌≤◌, ◌<◌, ◌≡◌, ◌↔◌, true, false, ◌&&◌, ◌||◌, length, get_or}
+use Rattle.std.specs.Prelude.{ℕ, ◌+◌, ◌^◌, ◌≤◌, ◌<◌, ◌≡◌, ◌↔◌, true, false, ◌&&◌, ◌||◌, length, get_or, None}
 use mathlib.Core.List.{List, [], ◌++◌, Memᴰ}
 use Rattle.laws.specs.Words.{bit}
 use Rattle.registers.specs.Files.{file_of, is_file, part_of, slot_of}
 use Rattle.registers.specs.declared.RegSpec.{RegSpec}
 use Rattle.registers.specs.declared.RegisterFile.{RegisterFile}
-use Rattle.registers.specs.declared.Value.{Value}
-use Rattle.registers.specs.declared.Value.TheVariants.{Unknown}
+use Rattle.registers.specs.Values.{Value}
 use Rattle.implicit.specs.declared.Way.{Way}
 use Rattle.definition.specs.Addresses.{registers_of, address_of, segment_registers, based_of}
 use Rattle.definition.specs.Limits.{most_bytes}
@@ -71,7 +70,7 @@ RefusedAlike =
 abbrev pub RestrictedIs : Type 0
 RestrictedIs =
     (v : ℕ) (f : RegisterFile) (k : ℕ)
-    → (bit v k ≡ true → slot_of (restricted v f) k ≡ slot_of f k) × (bit v k ≡ false → slot_of (restricted v f) k ≡ Unknown)
+    → (bit v k ≡ true → slot_of (restricted v f) k ≡ slot_of f k) × (bit v k ≡ false → slot_of (restricted v f) k ≡ None)
 
 -- two files answer the registers of a set alike
 abbrev pub AlikeOn : ℕ → RegisterFile → RegisterFile → Type 0
@@ -116,5 +115,5 @@ NothingSpare =
     (bs : List RecordBytes) (k : ℕ) → bit (proposed bs) k ≡ true
     → (b : RecordBytes) × (w : Way) × (s : ℕ) × (a : Address) × (m : ℕ) × (n : ℕ)
     × Memᴰ b bs × (refusal_alone b ≡ 0) × Memᴰ (touches w s a m n) (steps_of (fixed_record b))
-    × ((f : RegisterFile) → slot_of f k ≡ Unknown → place_under f s a ≡ Unknown)
-    × (AllHeld s a → place_under all_known s a ≡ Unknown → ⊥)
+    × ((f : RegisterFile) → slot_of f k ≡ None → place_under f s a ≡ None)
+    × (AllHeld s a → place_under all_known s a ≡ None → ⊥)

@@ -2,7 +2,7 @@
 use Rattle.std.specs.Prelude.{ℕ, List, [], ◌∷◌, get_or}
 use Rattle.laws.specs.Lists.{flat}
 use Rattle.registers.specs.declared.RegSpec.{RegSpec}
-use Rattle.registers.specs.declared.Value.{Value}
+use Rattle.registers.specs.Values.{Value}
 use Rattle.implicit.specs.Lists.{al, ax, cx, dx, eax, ecx, edx, edi, rax, rcx, rdx, rbx, rsp, rdi, xmm0}
 use Rattle.implicit.specs.declared.Way.TheVariants.{Read, Write}
 use Rattle.record.specs.declared.Record.{Record}

@@ -9,4 +9,5 @@ pub mod Numbers
 pub mod Bits
 pub mod Keys
 pub mod Outcomes
+pub mod Answered
 pub mod Room

@@ -2,7 +2,7 @@
 use Rattle.std.specs.Prelude.{ℕ, List, [], ◌∷◌, Bool, false, cond}
 use Rattle.laws.specs.Lists.{flat}
 use Rattle.registers.specs.declared.RegSpec.{RegSpec}
-use Rattle.registers.specs.declared.Value.{Value}
+use Rattle.registers.specs.Values.{Value}
 use Rattle.implicit.specs.declared.Way.{Way}
 use Rattle.implicit.specs.declared.Way.TheVariants.{Read, Write}
 use Rattle.record.specs.Records.{reg_at}

@@ -1,4 +1,5 @@
 -- Every event of the log of a record that is not refused is one that the reader takes. Assumes nothing.
+use Rattle.std.specs.Prelude.{Some, None}
 use Prim.Native.Nat.{ℕ, zero, suc, ◌^◌, ◌/◌, ◌%◌, ◌<◌, ◌≤◌}
 use native.Mathlib.Omega.{arith}
 use native.Mathlib.Nat.{mod-lt}
@@ -19,8 +20,7 @@ use Rattle.registers.specs.Banks.{reg, logged_numbers, fs, gs, is_register, is_l
 use Rattle.registers.specs.Files.{after, value_of}
 use Rattle.registers.specs.declared.RegSpec.{RegSpec}
 use Rattle.registers.specs.declared.RegisterFile.{RegisterFile}
-use Rattle.registers.specs.declared.Value.{Value}
-use Rattle.registers.specs.declared.Value.TheVariants.{Known, Unknown}
+use Rattle.registers.specs.Values.{Value}
 use Rattle.digest.specs.Digests.{flags_access}
 use Rattle.implicit.specs.Lists.{implicits, implicit_of}
 use Rattle.implicit.specs.declared.Way.{Way}
@@ -70,12 +70,12 @@ may_log b n h = by (eqb b 13) refl
 
 -- Steps and events: an address is below two to the 64
 abbrev Small : Value → Type 0
-Small (Known v) = v < 2 ^ 64
-Small Unknown = Unit {0}
+Small (Some v) = v < 2 ^ 64
+Small None = Unit {0}
 
 after_small : (v : Value) (k : ℕ → Value) → ((n : ℕ) → Small (k n)) → Small (after v k)
-after_small (Known v) k h = h v
-after_small Unknown k h = tt
+after_small (Some v) k h = h v
+after_small None k h = tt
 
 low_small : (c : Bool) (n : ℕ) → n < 2 ^ 64 → low_if c n < 2 ^ 64
 low_small true n h = omega arith
@@ -95,10 +95,10 @@ based_small f s v h = by (eqb s 0)
 
 memory_good : (w : Way) (v : Value) (n : ℕ) → Small v → is_size n ≡ true → GoodEvent (memory_event w v n)
 unfolding is_event memory_event
-memory_good Read (Known a) n h s = (s, h)
-memory_good Read Unknown n h s = (s, tt)
-memory_good Write (Known a) n h s = (s, h)
-memory_good Write Unknown n h s = (s, tt)
+memory_good Read (Some a) n h s = (s, h)
+memory_good Read None n h s = (s, tt)
+memory_good Write (Some a) n h s = (s, h)
+memory_good Write None n h s = (s, tt)
 
 reads_good : (ys : List RegSpec) → Every Good ys → Every GoodEvent (map RegisterRead ys)
 unfolding is_event

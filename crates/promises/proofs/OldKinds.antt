@@ -1,5 +1,6 @@
 -- The kinds that were there before T-10 answer as they did: a record that names no segment, and a file that knows no base, are the same
 -- record and the same file without those bytes. Assumes nothing.
+use Rattle.std.specs.Prelude.{Some, None}
 use Prim.Native.Nat.{ℕ, zero, suc, ◌+◌, ◌-◌, ◌/◌, ◌%◌, ◌^◌, ◌<◌, ◌≤◌, zero-le}
 use native.Mathlib.Nat.{not-suc-le-zero}
 use native.Mathlib.Omega.{arith}
@@ -15,7 +16,6 @@ use Rattle.laws.proofs.Span.{span}
 use Rattle.registers.specs.Files.{file_kind, based_kind, file_bytes, based_bytes, plain_slots, file_slots, file_values, file_length, numbers_from, file_of, is_file, part_of, slot_of, part_value, value_of}
 use Rattle.registers.specs.declared.RegSpec.{RegSpec}
 use Rattle.registers.specs.declared.RegisterFile.{RegisterFile}
-use Rattle.registers.specs.declared.Value.TheVariants.{Known, Unknown}
 use Rattle.record.specs.Records.{record_kind, segment_kind, record_bytes, record_length, is_record, record_digest, record_of, lacks_digest, record_refusal}
 use Rattle.definition.specs.Behaviors.{digest_call, privilege_call, exceptions_call}
 use Rattle.definition.specs.Visits.{log_of, refusal_of, visit_by}
@@ -173,7 +173,7 @@ module _ (t u : List ℕ) (good : is_file (file_kind ∷ t) ≡ true) (more : le
       )
       k zero-le h
     where
-      v : (n i : ℕ) → 1 ≤ i → i + 8 ≤ file_bytes → cond (bit (number_at based 1 4) n) (Known (number_at based i 8)) Unknown ≡ cond (bit (number_at plain 1 4) n) (Known (number_at plain i 8)) Unknown
+      v : (n i : ℕ) → 1 ≤ i → i + 8 ≤ file_bytes → cond (bit (number_at based 1 4) n) (Some (number_at based i 8)) None ≡ cond (bit (number_at plain 1 4) n) (Some (number_at plain i 8)) None
       v n i h k = rw (known, number i 8 h k)
 
   slots : (k : ℕ) → Slot k

@@ -1,5 +1,6 @@
 -- Demand 3 over lists of steps: a file that knows more gives events that refine, and files that agree on the registers read give
 -- the same events. Assumes nothing.
+use Rattle.std.specs.Prelude.{Some, None}
 use Prim.Native.Nat.{ℕ}
 use mathlib.Core.Path.{◌≡◌, refl, ap₂}
 use mathlib.Core.Bool.{Bool, true, false, cond}
@@ -10,8 +11,7 @@ use Rattle.laws.specs.Lists.{each, flat}
 use Rattle.registers.specs.Files.{part_of, slot_of, after, part_value, value_of}
 use Rattle.registers.specs.declared.RegSpec.{RegSpec}
 use Rattle.registers.specs.declared.RegisterFile.{RegisterFile}
-use Rattle.registers.specs.declared.Value.{Value}
-use Rattle.registers.specs.declared.Value.TheVariants.{Known, Unknown}
+use Rattle.registers.specs.Values.{Value}
 use Rattle.implicit.specs.declared.Way.{Way}
 use Rattle.implicit.specs.declared.Way.TheVariants.{Read, Write}
 use Rattle.definition.specs.Addresses.{term_registers, registers_of, term_of, address_of, segment_register, segment_registers, based_on, based_of}
@@ -25,12 +25,12 @@ use Rattle.definition.specs.declared.Event.TheVariants.{RegisterRead}
 use Rattle.promises.specs.Refinement.{Gives, Extends, Refines, same, found_read, found_write, RefinesAll, none, one, AgreeOn}
 
 gives_refl : (v : Value) → Gives v v
-gives_refl (Known v) = refl
-gives_refl Unknown = tt
+gives_refl (Some v) = refl
+gives_refl None = tt
 
 gives_after : (v u : Value) (k l : ℕ → Value) → Gives v u → ((n : ℕ) → Gives (k n) (l n)) → Gives (after v k) (after u l)
-gives_after (Known v) u k l e h = rw e (h v)
-gives_after Unknown u k l e h = tt
+gives_after (Some v) u k l e h = rw e (h v)
+gives_after None u k l e h = tt
 
 all_refl : (es : List Event) → RefinesAll es es
 all_refl [] = none
@@ -42,12 +42,12 @@ all_append (one h p) q = one h (all_append p q)
 
 memory_refines : (w : Way) (v u : Value) (n : ℕ) → Gives v u → Refines (memory_event w v n) (memory_event w u n)
 unfolding memory_event
-memory_refines Read (Known a) u n e = rw e same
-memory_refines Read Unknown (Known a) n e = found_read
-memory_refines Read Unknown Unknown n e = same
-memory_refines Write (Known a) u n e = rw e same
-memory_refines Write Unknown (Known a) n e = found_write
-memory_refines Write Unknown Unknown n e = same
+memory_refines Read (Some a) u n e = rw e same
+memory_refines Read None (Some a) n e = found_read
+memory_refines Read None None n e = same
+memory_refines Write (Some a) u n e = rw e same
+memory_refines Write None (Some a) n e = found_write
+memory_refines Write None None n e = same
 
 -- the first half
 module _ (f g : RegisterFile) (more : Extends f g) where

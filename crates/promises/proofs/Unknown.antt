@@ -1,4 +1,5 @@
 -- An address is unknown exactly when a register in it is. Assumes nothing.
+use Rattle.std.specs.Prelude.{Some, None}
 use Prim.Native.Nat.{ℕ}
 use native.Mathlib.Omega.{arith}
 use mathlib.Core.Path.{◌≡◌, refl, sym, ap, ◌∙◌}
@@ -10,46 +11,45 @@ use mathlib.Core.List.{List, [], ◌∷◌, ◌++◌, Memᴰ}
 use Rattle.registers.specs.Files.{after, value_of}
 use Rattle.registers.specs.declared.RegSpec.{RegSpec}
 use Rattle.registers.specs.declared.RegisterFile.{RegisterFile}
-use Rattle.registers.specs.declared.Value.{Value}
-use Rattle.registers.specs.declared.Value.TheVariants.{Known, Unknown}
+use Rattle.registers.specs.Values.{Value}
 use Rattle.definition.specs.Addresses.{term_registers, registers_of, term_of, address_of, segment_register, segment_registers, based_on, based_of}
 use Rattle.definition.specs.declared.Address.{Address}
 use Rattle.definition.specs.declared.Term.{Term}
 use Rattle.definition.specs.declared.Term.TheVariants.{Absent, Plain, Scaled}
 
 abbrev Some : RegisterFile → List RegSpec → Type 0
-Some f ys = (y : RegSpec) × Memᴰ y ys × (value_of f y ≡ Unknown)
+Some f ys = (y : RegSpec) × Memᴰ y ys × (value_of f y ≡ None)
 
-known_not : (v : ℕ) → Known v ≡ Unknown → ⊥
+known_not : (v : ℕ) → Some v ≡ None → ⊥
 known_not v e = let z : ◌≡◌ {A = ℕ} 0 1 = cc in omega arith
 
-after_unknown : (v : Value) (k : ℕ → Value) → v ≡ Unknown → after v k ≡ Unknown
+after_unknown : (v : Value) (k : ℕ → Value) → v ≡ None → after v k ≡ None
 after_unknown v k e = rw e
 
 -- what is unknown after a value is so by the value, or by what it gives
-after_either : (v : Value) (k : ℕ → Value) → after v k ≡ Unknown → (v ≡ Unknown) ⊎ ((n : ℕ) × (k n ≡ Unknown))
-after_either (Known v) k e = inr (v, e)
-after_either Unknown k e = inl refl
+after_either : (v : Value) (k : ℕ → Value) → after v k ≡ None → (v ≡ None) ⊎ ((n : ℕ) × (k n ≡ None))
+after_either (Some v) k e = inr (v, e)
+after_either None k e = inl refl
 
 module _ (f : RegisterFile) where
-  term_to : (t : Term) → term_of f t ≡ Unknown → Some f (term_registers t)
+  term_to : (t : Term) → term_of f t ≡ None → Some f (term_registers t)
   unfolding term_of term_registers
   term_to Absent e = absurd (known_not 0 e)
   term_to (Plain y) e = (y, Memᴰ.head refl, e)
   term_to (Scaled y k) e =
       ⊎_elim (λ h. (y, Memᴰ.head refl, h)) (λ h. absurd (known_not _ h.1)) (after_either (value_of f y) _ e)
 
-  term_from : (t : Term) → Some f (term_registers t) → term_of f t ≡ Unknown
+  term_from : (t : Term) → Some f (term_registers t) → term_of f t ≡ None
   unfolding term_of term_registers
   term_from Absent s = absurd (Memᴰ.not-nil s.1)
   term_from (Plain y) s = ap (value_of f) (sym (Memᴰ.eq_of_singleton s.1)) ∙ s.2
   term_from (Scaled y k) s = after_unknown (value_of f y) _ (ap (value_of f) (sym (Memᴰ.eq_of_singleton s.1)) ∙ s.2)
 
-  second_unknown : (v : Value) (k : ℕ → Value) → ((n : ℕ) → k n ≡ Unknown) → after v k ≡ Unknown
-  second_unknown (Known v) k h = h v
-  second_unknown Unknown k h = refl
+  second_unknown : (v : Value) (k : ℕ → Value) → ((n : ℕ) → k n ≡ None) → after v k ≡ None
+  second_unknown (Some v) k h = h v
+  second_unknown None k h = refl
 
-  pub unknown_to : (a : Address) → address_of f a ≡ Unknown → Some f (registers_of a)
+  pub unknown_to : (a : Address) → address_of f a ≡ None → Some f (registers_of a)
   unfolding address_of registers_of
   unknown_to a e =
       ⊎_elim
@@ -60,7 +60,7 @@ module _ (f : RegisterFile) where
       (after_either (term_of f a.index) _ h.1))
       (after_either (term_of f a.base) _ e)
 
-  pub unknown_from : (a : Address) → Some f (registers_of a) → address_of f a ≡ Unknown
+  pub unknown_from : (a : Address) → Some f (registers_of a) → address_of f a ≡ None
   unfolding address_of registers_of
   unknown_from a s =
       ⊎_elim
@@ -69,19 +69,19 @@ module _ (f : RegisterFile) where
       (Memᴰ.append_cases (term_registers a.base) s.1)
 
   -- an access, by the base of its segment and its address
-  based_first : (b v : Value) → based_on b v ≡ Unknown → (b ≡ Unknown) ⊎ (v ≡ Unknown)
-  based_first Unknown v e = inl refl
-  based_first (Known u) Unknown e = inr refl
-  based_first (Known u) (Known a) e = absurd (known_not _ e)
+  based_first : (b v : Value) → based_on b v ≡ None → (b ≡ None) ⊎ (v ≡ None)
+  based_first None v e = inl refl
+  based_first (Some u) None e = inr refl
+  based_first (Some u) (Some a) e = absurd (known_not _ e)
 
-  pub based_to : (s : ℕ) (a : Address) → based_of f s (address_of f a) ≡ Unknown → Some f (segment_registers s ++ registers_of a)
+  pub based_to : (s : ℕ) (a : Address) → based_of f s (address_of f a) ≡ None → Some f (segment_registers s ++ registers_of a)
   unfolding based_of segment_registers
   based_to s a e = by (eqb s 0) e
     where
       y : RegSpec
       y = segment_register s
 
-      by : (t : Bool) → cond t (address_of f a) (based_on (value_of f y) (address_of f a)) ≡ Unknown → Some f (cond t [] (y ∷ []) ++ registers_of a)
+      by : (t : Bool) → cond t (address_of f a) (based_on (value_of f y) (address_of f a)) ≡ None → Some f (cond t [] (y ∷ []) ++ registers_of a)
       by true e = unknown_to a e
       by false e =
           ⊎_elim
@@ -89,14 +89,14 @@ module _ (f : RegisterFile) where
           (λ h. let r = unknown_to a h in (r.0, Memᴰ.append_right (y ∷ []) r.1, r.2))
           (based_first (value_of f y) (address_of f a) e)
 
-  pub based_from : (s : ℕ) (a : Address) → Some f (segment_registers s ++ registers_of a) → based_of f s (address_of f a) ≡ Unknown
+  pub based_from : (s : ℕ) (a : Address) → Some f (segment_registers s ++ registers_of a) → based_of f s (address_of f a) ≡ None
   unfolding based_of segment_registers
   based_from s a r = by (eqb s 0) r
     where
       y : RegSpec
       y = segment_register s
 
-      by : (t : Bool) → Some f (cond t [] (y ∷ []) ++ registers_of a) → cond t (address_of f a) (based_on (value_of f y) (address_of f a)) ≡ Unknown
+      by : (t : Bool) → Some f (cond t [] (y ∷ []) ++ registers_of a) → cond t (address_of f a) (based_on (value_of f y) (address_of f a)) ≡ None
       by true r = unknown_from a r
       by false r =
           ⊎_elim

@@ -1,6 +1,6 @@
 -- WHAT IS PROMISED of the definitions, each statement after its sentence. proofs/Proved.antt proves them all; nothing is assumed.
 -- The words that the statements use stand in Refinement.antt (files and events), Calls.antt (calls) and Rows.antt (tables).
-use Rattle.std.specs.Prelude.{ℕ, ◌+◌, ◌-◌, ◌≤◌, ◌≡◌, ◌↔◌, Bool, true, not, length, take, drop, set}
+use Rattle.std.specs.Prelude.{ℕ, ◌+◌, ◌-◌, ◌≤◌, ◌≡◌, ◌↔◌, Bool, true, not, length, take, drop, set, Some, None}
 use mathlib.Core.List.{List, [], ◌∷◌, ◌++◌, Memᴰ}
 use Rattle.laws.specs.Lending.{splice}
 use Rattle.laws.specs.Outcomes.{OneOutcome}
@@ -11,7 +11,6 @@ use Rattle.access.specs.declared.InfoAnswer.{InfoAnswer}
 use Rattle.registers.specs.Files.{file_kind, based_kind, file_bytes, based_bytes, file_of, file_answer, is_file, slot_of, after, value_of}
 use Rattle.registers.specs.declared.RegSpec.{RegSpec}
 use Rattle.registers.specs.declared.RegisterFile.{RegisterFile}
-use Rattle.registers.specs.declared.Value.TheVariants.{Known, Unknown}
 use Rattle.digest.specs.Digests.{with_privilege, with_flags, with_nontrivial, with_complex, operand_answer, list_answer, then, digest_number}
 use Rattle.digest.specs.declared.BehaviorDigest.{BehaviorDigest}
 use Rattle.digest.specs.declared.DigestAnswer.{DigestAnswer}
@@ -78,20 +77,20 @@ AgreementDecidesUnder =
 abbrev pub UnknownExactly : Type 0
 UnknownExactly =
     (f : RegisterFile) (a : Address)
-    → (address_of f a ≡ Unknown) ↔ ((y : RegSpec) × Memᴰ y (registers_of a) × (value_of f y ≡ Unknown))
+    → (address_of f a ≡ None) ↔ ((y : RegSpec) × Memᴰ y (registers_of a) × (value_of f y ≡ None))
 
 -- The same of an access: it lies at an unknown address exactly where the base of its segment or a register of its address is unknown.
 abbrev pub BaseUnknownExactly : Type 0
 BaseUnknownExactly =
     (f : RegisterFile) (s : ℕ) (a : Address)
-    → (based_of f s (address_of f a) ≡ Unknown) ↔ ((y : RegSpec) × Memᴰ y (segment_registers s ++ registers_of a) × (value_of f y ≡ Unknown))
+    → (based_of f s (address_of f a) ≡ None) ↔ ((y : RegSpec) × Memᴰ y (segment_registers s ++ registers_of a) × (value_of f y ≡ None))
 
 -- CUT LAST. An explicit operand lies where the sum of all its parts says; with the address-size bit, at its low 32 bits.
 abbrev pub CutLast : Type 0
 CutLast =
     (f : RegisterFile) (x : Record) (b : Base) (i : Bool) (d : Displacement)
     → address_of f (operand_address x b i d)
-    ≡ after (address_of f (uncut (operand_address x b i d))) (λ v. Known (low_if (address_size x) v))
+    ≡ after (address_of f (uncut (operand_address x b i d))) (λ v. Some (low_if (address_size x) v))
 
 -- BOUNDS. No log is longer than most_bytes or has more than most_events, and no listing is longer than most_listed, for every record,
 -- refused or not, and every file.

@@ -1,18 +1,17 @@
 -- When one register file knows all that another knows, when one log says all that another says, and when files agree.
-use Rattle.std.specs.Prelude.{ℕ, ◌≡◌}
+use Rattle.std.specs.Prelude.{ℕ, ◌≡◌, Some, None}
 use mathlib.Core.List.{List, [], ◌∷◌, Memᴰ}
 use Rattle.registers.specs.Files.{slot_of, value_of}
 use Rattle.registers.specs.declared.RegSpec.{RegSpec}
 use Rattle.registers.specs.declared.RegisterFile.{RegisterFile}
-use Rattle.registers.specs.declared.Value.{Value}
-use Rattle.registers.specs.declared.Value.TheVariants.{Known, Unknown}
+use Rattle.registers.specs.Values.{Value}
 use Rattle.definition.specs.declared.Event.{Event}
 use Rattle.definition.specs.declared.Event.TheVariants.{RegisterRead, MemoryRead, MemoryWrite, UnknownRead, UnknownWrite}
 
 -- what the first value gives, the second gives too
 abbrev pub Gives : Value → Value → Type 0
-Gives (Known v) u = u ≡ Known v
-Gives Unknown u = Unit {0}
+Gives (Some v) u = u ≡ Some v
+Gives None u = Unit {0}
 
 -- the second file knows all that the first knows, with equal values
 abbrev pub Extends : RegisterFile → RegisterFile → Type 0

@@ -1,11 +1,10 @@
 -- Every list, spec, opcode and bank once, so that no entry of a table stands unseen.
-use Rattle.std.specs.Prelude.{ℕ, suc, List, [], ◌∷◌, map, length}
+use Rattle.std.specs.Prelude.{ℕ, suc, List, [], ◌∷◌, map, length, Some, None}
 use Rattle.access.specs.Exceptions.{info_vectors}
 use Rattle.digest.specs.Digests.{digest_in}
 use Rattle.registers.specs.Banks as banks
 use Rattle.registers.specs.Files.{file_of, value_of}
-use Rattle.registers.specs.declared.Value.{Value}
-use Rattle.registers.specs.declared.Value.TheVariants.{Known, Unknown}
+use Rattle.registers.specs.Values.{Value}
 use Rattle.record.specs.Records.{record_refusal}
 use Rattle.definition.specs.Visits.{number_of, visit_of}
 use Rattle.definition.specs.declared.Answer.TheVariants.{Done}
@@ -164,27 +163,27 @@ value_in e =
 
 unfoldable pub every_value : List ((ℕ × ℕ) × Value)
 every_value =
-    ((Q, 0), Known 0x8877665544332211)
-    ∷ ((Q, 1), Known 0x18273645A4B3C2D1)
-    ∷ ((Q, 2), Unknown)
-    ∷ ((D, 0), Known 0x44332211)
-    ∷ ((D, 1), Known 0xA4B3C2D1)
-    ∷ ((D, 15), Unknown)
-    ∷ ((W, 1), Known 0xC2D1)
-    ∷ ((r_b, 1), Known 0xD1)
-    ∷ ((B, 1), Known 0xD1)
-    ∷ ((B, 3), Unknown)
-    ∷ ((B, 4), Known 0x22)
-    ∷ ((B, 5), Known 0xC2)
-    ∷ ((B, 7), Unknown)
-    ∷ ((X, 0), Unknown)
-    ∷ ((6, 0), Unknown)
-    ∷ ((7, 1), Unknown)
-    ∷ ((K, 0), Unknown)
-    ∷ ((RIP, 0), Known 0xFFEEDDCCBBAA9988)
-    ∷ ((EIP, 0), Known 0xBBAA9988)
-    ∷ ((RFLAGS, 0), Unknown)
-    ∷ ((12, 0), Unknown)
+    ((Q, 0), Some 0x8877665544332211)
+    ∷ ((Q, 1), Some 0x18273645A4B3C2D1)
+    ∷ ((Q, 2), None)
+    ∷ ((D, 0), Some 0x44332211)
+    ∷ ((D, 1), Some 0xA4B3C2D1)
+    ∷ ((D, 15), None)
+    ∷ ((W, 1), Some 0xC2D1)
+    ∷ ((r_b, 1), Some 0xD1)
+    ∷ ((B, 1), Some 0xD1)
+    ∷ ((B, 3), None)
+    ∷ ((B, 4), Some 0x22)
+    ∷ ((B, 5), Some 0xC2)
+    ∷ ((B, 7), None)
+    ∷ ((X, 0), None)
+    ∷ ((6, 0), None)
+    ∷ ((7, 1), None)
+    ∷ ((K, 0), None)
+    ∷ ((RIP, 0), Some 0xFFEEDDCCBBAA9988)
+    ∷ ((EIP, 0), Some 0xBBAA9988)
+    ∷ ((RFLAGS, 0), None)
+    ∷ ((12, 0), None)
     ∷ []
 
 -- The lists at size 0: refused 6 where they touch memory; and bit 14 where they name memory

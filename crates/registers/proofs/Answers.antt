@@ -1,4 +1,5 @@
 -- What the answer to a file's bytes says, for those who call. Assumes nothing.
+use Rattle.std.specs.Prelude.{Ok, Err}
 use Prim.Native.Nat.{ℕ, ◌+◌, ◌^◌, ◌<◌, ◌≤◌}
 use native.Mathlib.Omega.{arith}
 use mathlib.Core.Path.{◌≡◌, refl, sym, ◌∙◌}
@@ -10,22 +11,23 @@ use lib.Dec.{ltb, eqb}
 use borrow.Author.Tests.{eqb-true, ltb-true, eq-eqb, ne_eqb, lt-ltb, le-ltb}
 use Rattle.laws.specs.Words.{number_at}
 use Rattle.laws.proofs.Choice.{and_left, and_right}
-use Rattle.registers.specs.Files.{file_kind, based_kind, file_bytes, based_bytes, file_values, file_length, file_of, is_file, FileLong, no_file, refused_file, file_answer}
+use Rattle.registers.specs.Files.{file_kind, based_kind, file_bytes, based_bytes, file_values, file_length, file_of, is_file, FileLong, file_answer}
 use Rattle.registers.specs.Told.{file_refusal}
 use Rattle.registers.specs.declared.RegisterFile.{RegisterFile}
-use Rattle.registers.specs.declared.FileAnswer.{FileAnswer}
+use Rattle.laws.specs.Refusals.{answered_by, refused_by}
+use Rattle.laws.specs.declared.refusals.Refusal.TheVariants.{BadFile}
 
 -- the number is the refusal
-pub file_number : (b : List ℕ) → (file_answer b).number ≡ cond (is_file b) 0 3
+pub file_number : (b : List ℕ) → refused_by (file_answer b) ≡ cond (is_file b) 0 3
 unfolding file_answer
 file_number b = by (is_file b)
   where
-    by : (t : Bool) → (cond {A = FileAnswer} t (record { number = 0; file = file_of b }) (record { number = 3; file = no_file })).number ≡ cond t 0 3
+    by : (t : Bool) → refused_by (cond t (Ok (file_of b)) (Err BadFile)) ≡ cond t 0 3
     by true = refl
     by false = refl
 
 -- and where it is 0 the file is answered
-pub file_read : (b : List ℕ) → is_file b ≡ true → (file_answer b).file ≡ file_of b
+pub file_read : (b : List ℕ) → is_file b ≡ true → file_answer b ≡ Ok (file_of b)
 unfolding file_answer
 file_read b e = rw e
 
@@ -67,6 +69,12 @@ module _ (b : List ℕ) where
       let both = and_left (some && long) (ltb (number_at b 1 4) (2 ^ file_values (get_or b 0 0))) (is_file_lem z) in
       kind_long (get_or b 0 0) (length b) (ltb-true 0 (length b) (and_left some long both)) (eqb-true (length b) (file_length (get_or b 0 0)) (and_right some long both))
 
+  pub bad : 3 ≡ file_refusal b → Err BadFile ≡ answered_by (file_refusal b) (tt {0})
+  bad e = rw (← e)
+
+  pub good : 0 ≡ file_refusal b → Ok tt ≡ answered_by (file_refusal b) (tt {0})
+  good e = rw (← e)
+
   -- The refusal, test by test
   pub refused_empty : length b ≡ 0 → 3 ≡ file_refusal b
   unfolding file_refusal is_file
@@ -90,10 +98,11 @@ module _ (b : List ℕ) where
         unfolding file_refusal is_file
         not_refused h = rw (lt-ltb 0 (length b) (omega (arith, some)), eq-eqb (length b) (file_length (get_or b 0 0)) (long ∙ e), lt-ltb (number_at b 1 4) (2 ^ file_values (get_or b 0 0)) (rw (p, q) at h))
 
-  pub bad_file_lem : (file_refusal b ≡ 0 → ⊥) → {r : FileAnswer} → r ≡ refused_file → r ≡ file_answer b
-  unfolding file_answer
-  bad_file_lem ne e = rw (is_none ne) e
-
-  pub good_file : file_refusal b ≡ 0 → {f : RegisterFile} → f ≡ file_of b → ◌≡◌ {A = FileAnswer} (record { number = 0; file = f }) (file_answer b)
-  unfolding file_answer
-  good_file z e = rw (is_file_lem z, e)
+  -- what is answered by the refusal's number
+  pub file_answered : file_answer b ≡ answered_by (file_refusal b) (file_of b)
+  unfolding file_answer file_refusal
+  file_answered = by (is_file b)
+    where
+      by : (t : Bool) → cond t (Ok (file_of b)) (Err BadFile) ≡ answered_by (cond t 0 3) (file_of b)
+      by true = refl
+      by false = refl

@@ -32,6 +32,9 @@ unfolding number_at
 past_end b i zero h = refl
 past_end b i (suc n) h = omega (arith, past_end b (i + 1) n (omega arith), get_or-eq_default b 0 {n = i} h)
 
-pub no_base :
-    (b : List ℕ) → FileLong b → (length b ≡ based_bytes → ⊥) → (0 ≡ number_at b file_bytes 8) × (0 ≡ number_at b (file_bytes + 8) 8)
-no_base b long ne = ⊎_elim (λ e. (past_end b file_bytes 8 (omega arith), past_end b (file_bytes + 8) 8 (omega arith))) (λ e. absurd (ne e)) long
+module _ (b : List ℕ) (long : FileLong b) (ne : length b ≡ based_bytes → ⊥) where
+  pub no_fs : 0 ≡ number_at b file_bytes 8
+  no_fs = ⊎_elim (λ e. past_end b file_bytes 8 (omega arith)) (λ e. absurd (ne e)) long
+
+  pub no_gs : 0 ≡ number_at b (file_bytes + 8) 8
+  no_gs = ⊎_elim (λ e. past_end b (file_bytes + 8) 8 (omega arith)) (λ e. absurd (ne e)) long

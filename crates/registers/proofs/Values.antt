@@ -1,5 +1,6 @@
 -- What a file answers of a register: no more than its width holds, and of a narrower register the remainder of the wider one.
 -- Assumes nothing.
+use Rattle.std.specs.Prelude.{Some, None}
 use Prim.Native.Nat.{ℕ, zero, suc, ◌+◌, ◌-◌, ◌*◌, ◌^◌, ◌/◌, ◌%◌, ◌<◌, ◌≤◌}
 use native.Mathlib.Nat.{mod-lt}
 use native.Mathlib.Omega.{arith}
@@ -19,24 +20,23 @@ use Rattle.registers.specs.Files.{file_slots, Part, nowhere, bank_parts, part_of
 use Rattle.registers.proofs.Parts.{inner}
 use Rattle.registers.specs.declared.RegSpec.{RegSpec}
 use Rattle.registers.specs.declared.RegisterFile.{RegisterFile}
-use Rattle.registers.specs.declared.Value.{Value}
-use Rattle.registers.specs.declared.Value.TheVariants.{Known, Unknown}
+use Rattle.registers.specs.Values.{Value}
 
 -- what is known is below a bound
 abbrev pub Below : ℕ → Value → Type 0
-Below n (Known v) = v < n
-Below n Unknown = Unit {0}
+Below n (Some v) = v < n
+Below n None = Unit {0}
 
 pub below_le : {m n : ℕ} → m ≤ n → (x : Value) → Below m x → Below n x
-below_le h (Known v) b = omega arith
-below_le h Unknown b = tt
+below_le h (Some v) b = omega arith
+below_le h None b = tt
 
 -- Every value of a file that is read is one of its values
 pub slot_below : (f : RegisterFile) (n : ℕ) → 0 < n → Every (λ (v : ℕ). v < n) f.values → (k : ℕ) → Below n (slot_of f k)
 unfolding slot_of
 slot_below f n pos h k = by (ltb k file_slots && bit f.known k)
   where
-    by : (t : Bool) → Below n (cond t (Known (get_or f.values k 0)) Unknown)
+    by : (t : Bool) → Below n (cond t (Some (get_or f.values k 0)) None)
     by true = every_at (λ (v : ℕ). v < n) f.values 0 h pos k
     by false = tt
 
@@ -55,9 +55,9 @@ pub part_below : (f : RegisterFile) (p : Part) → Below (2 ^ p.bits) (part_valu
 unfolding part_value
 part_below f p = by (slot_of f p.slot)
   where
-    by : (x : Value) → Below (2 ^ p.bits) (after x (λ v. Known (v / 2 ^ p.below % 2 ^ p.bits)))
-    by (Known v) = mod-lt (v / 2 ^ p.below) (pow_pos p.bits)
-    by Unknown = tt
+    by : (x : Value) → Below (2 ^ p.bits) (after x (λ v. Some (v / 2 ^ p.below % 2 ^ p.bits)))
+    by (Some v) = mod-lt (v / 2 ^ p.below) (pow_pos p.bits)
+    by None = tt
 
 -- a part of a bank's table has as many bits as the bank is wide, or lies nowhere
 fits : ℕ → Part → Bool
@@ -101,7 +101,7 @@ value_word f x = by (is_logged x.bank x.number)
 -- a register inside another, `up` bits above its lowest, is that part of its value: of ax, al is the remainder and ah is what is above
 pub inside :
     (f : RegisterFile) (x y : RegSpec) (up : ℕ) → (part_of x).slot ≡ (part_of y).slot → (part_of x).below ≡ (part_of y).below + up → (part_of x).bits + up ≤ (part_of y).bits
-    → value_of f x ≡ after (value_of f y) (λ v. Known (v / 2 ^ up % 2 ^ (part_of x).bits))
+    → value_of f x ≡ after (value_of f y) (λ v. Some (v / 2 ^ up % 2 ^ (part_of x).bits))
 unfolding value_of part_value
 inside f x y up s b h =
     let p = part_of x in

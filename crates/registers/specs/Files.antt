@@ -1,12 +1,12 @@
 -- A register file, from its bytes, and what it answers of a register.
-use Rattle.std.specs.Prelude.{ℕ, zero, suc, ◌+◌, ◌-◌, ◌*◌, ◌^◌, ◌/◌, ◌%◌, ◌≡◌, ◌⊎◌, List, [], ◌∷◌, Bool, cond, ◌&&◌, length, get_or, replicate, ltb, eqb}
+use Rattle.std.specs.Prelude.{ℕ, zero, suc, ◌+◌, ◌-◌, ◌*◌, ◌^◌, ◌/◌, ◌%◌, ◌≡◌, ◌⊎◌, List, [], ◌∷◌, Bool, cond, ◌&&◌, length, get_or, replicate, ltb, eqb, Some, None, Result, Ok, Err}
 use Rattle.laws.specs.Words.{number_at, bit}
 use Rattle.registers.specs.Banks.{is_logged}
 use Rattle.registers.specs.declared.RegSpec.{RegSpec}
 use Rattle.registers.specs.declared.RegisterFile.{RegisterFile}
-use Rattle.registers.specs.declared.FileAnswer.{FileAnswer}
-use Rattle.registers.specs.declared.Value.{Value}
-use Rattle.registers.specs.declared.Value.TheVariants.{Known, Unknown}
+use Rattle.laws.specs.declared.refusals.Refusal.{Refusal}
+use Rattle.laws.specs.declared.refusals.Refusal.TheVariants.{BadFile}
+use Rattle.registers.specs.Values.{Value}
 
 abbrev pub file_with : List ℕ → ℕ → RegisterFile
 file_with v k = record { values = v; known = k }
@@ -61,12 +61,9 @@ FileLong b = (length b ≡ file_bytes) ⊎ (length b ≡ based_bytes)
 unfoldable pub no_file : RegisterFile
 no_file = file_with (replicate file_slots 0) 0
 
-abbrev pub refused_file : FileAnswer
-refused_file = record { number = 3; file = no_file }
-
 -- the file, or refusal 3
-unfoldable pub file_answer : List ℕ → FileAnswer
-file_answer b = cond (is_file b) (record { number = 0; file = file_of b }) refused_file
+unfoldable pub file_answer : List ℕ → Result RegisterFile Refusal
+file_answer b = cond (is_file b) (Ok (file_of b)) (Err BadFile)
 
 -- the part of a full register that a register is: the slot of the file that it lies in, the bits below it, and its own bits
 pub record Part : Type 0 where
@@ -102,16 +99,16 @@ part_of x = cond (is_logged x.bank x.number) (get_or (bank_parts x.number) x.ban
 
 -- what a file answers of one of its slots
 unfoldable pub slot_of : RegisterFile → ℕ → Value
-slot_of f k = cond (ltb k file_slots && bit f.known k) (Known (get_or f.values k 0)) Unknown
+slot_of f k = cond (ltb k file_slots && bit f.known k) (Some (get_or f.values k 0)) None
 
 -- what a value gives, unknown where it is
 abbrev pub after : Value → (ℕ → Value) → Value
-after (Known v) k = k v
-after Unknown k = Unknown
+after (Some v) k = k v
+after None k = None
 
 -- what a file answers of a part: its bits of the slot's value
 unfoldable pub part_value : RegisterFile → Part → Value
-part_value f p = after (slot_of f p.slot) (λ v. Known (v / 2 ^ p.below % 2 ^ p.bits))
+part_value f p = after (slot_of f p.slot) (λ v. Some (v / 2 ^ p.below % 2 ^ p.bits))
 
 -- what a file answers of a register; one that the table has not is unknown
 unfoldable pub value_of : RegisterFile → RegSpec → Value

@@ -1,3 +1,4 @@
+pub mod Values
 pub mod Banks
 pub mod Files
 pub mod Told

@@ -4,11 +4,13 @@
 pub mod names; // names.rt: the registers that lists, specs and segments name
 
 ghost use Rattle.std.specs.Prelude.{◌≡◌, cond, ◌+◌, ◌<◌, ◌≤◌, ◌^◌, length, get_or};
-ghost use Rattle.laws.specs.Words.{number_at, bit};
+ghost use Rattle.laws.specs.Refusals.{answered_by};
+ghost use Rattle.laws.specs.Words.{number_at};
 ghost use Rattle.registers.specs.Banks.{reg, bank_numbers, logged_numbers, is_register, is_logged, width_of};
-ghost use Rattle.registers.specs.Files.{file_bytes, file_slots, file_values, file_length, file_with, file_of, FileLong, refused_file, file_answer, value_of};
-ghost use Rattle.registers.specs.declared.Value.TheVariants.{Known, Unknown};
+ghost use Rattle.registers.specs.Files.{file_bytes, file_slots, file_values, file_length, file_of, FileLong, file_answer, value_of};
 ghost use Rattle.registers.specs.Told.{file_refusal, two_values, is_told, told_numbers, told_slot, told_part, told_byte};
+
+use laws::Refusal;
 
 // How many values a file holds, and its length by its kind: the kind, four bytes of known bits, then the values. The plain kind holds
 // the general registers and rip; the other holds the bases of fs and gs behind them.
@@ -25,18 +27,14 @@ pub const FILE_BYTES: usize = 5 + 8 * PLAIN_SLOTS;
 pub const BASED_BYTES: usize = 5 + 8 * FILE_SLOTS;
 
 // A register: its bank, and its number there.
-#[derive(Clone, Copy)]
+#[derive(Clone, Copy, PartialEq, Eq)]
 pub struct RegSpec {
     pub bank: u8,
     pub number: u8,
 }
 
 // What is known of a register.
-#[derive(Clone, Copy)]
-pub enum Value {
-    Known(u64),
-    Unknown,
-}
+pub type Value = Option<u64>;
 
 // What is known of the two registers of an address.
 #[derive(Clone, Copy)]
@@ -52,15 +50,9 @@ pub struct RegisterFile {
     pub known: u32,
 }
 
-// A register file, or a refusal number and a file that knows nothing.
-#[derive(Clone, Copy)]
-pub struct FileAnswer {
-    pub number: u8,
-    pub file: RegisterFile,
-}
-
 impl RegSpec {
     // Whether the table has it: what a record may name.
+    #[tactic(auto, unfolding(crate::specs::Banks::is_register))]
     pub fn is_register(bank: u8, number: u8) -> bool
         ensures { result ≡ is_register bank number }
     {
@@ -68,6 +60,7 @@ impl RegSpec {
     }
 
     // What an event may name: the bases of fs and gs too.
+    #[tactic(auto, unfolding(crate::specs::Banks::is_logged))]
     pub fn is_logged(bank: u8, number: u8) -> bool
         ensures { result ≡ is_logged bank number }
     {
@@ -75,6 +68,7 @@ impl RegSpec {
     }
 
     // How many bytes it has.
+    #[tactic(auto, unfolding(crate::specs::Banks::width_of))]
     pub fn width(self) -> u8
         ensures { result ≡ width_of self }
     {
@@ -129,31 +123,13 @@ fn logged_numbers(bank: u8) -> u8
 }
 
 impl RegisterFile {
-    // The file in its bytes, or refusal 3.
-    pub fn from_bytes(b: &[u8]) -> FileAnswer
+    // The file in its bytes, where they are not refused.
+    #[tactic(auto, using(laws::proofs::Answered::handed_on, laws::proofs::Answered::passed, crate::proofs::Answers::file_answered, crate::proofs::Answers::file_long))]
+    pub fn from_bytes(b: &[u8]) -> Result<RegisterFile, Refusal>
         ensures { result ≡ file_answer b.now }
     {
-        if refusal_of(b) != 0 {
-            return RegisterFile::refused();
-        }
-        let file = RegisterFile::parse(b);
-        FileAnswer {
-            number: 0,
-            file: file,
-        }
-    }
-
-    fn refused() -> FileAnswer
-        ensures { result ≡ refused_file }
-    {
-        let file = RegisterFile {
-            values: [0; FILE_SLOTS],
-            known: 0,
-        };
-        FileAnswer {
-            number: 3,
-            file: file,
-        }
+        check(b)?;
+        Ok(RegisterFile::parse(b))
     }
 
     pub fn parse(b: &[u8]) -> RegisterFile
@@ -183,30 +159,27 @@ impl RegisterFile {
             bases.fs,
             bases.gs,
         ];
-        RegisterFile {
-            values: values,
-            known: known,
-        }
+        RegisterFile { values, known }
     }
 
     // What is known of a register: a part of one of its values. One that the table has not is unknown.
     pub fn value(self, x: RegSpec) -> Value
         ensures { result ≡ value_of self x }
     {
-        value_in(&self.values, self.known, x)
+        value_in(&self, x)
     }
 
     // The same of a general register and of the base of fs or gs, by its number: short enough to be inlined, so that no file is copied.
     pub fn general(self, number: u8) -> Value
         ensures { result ≡ value_of self (reg 0 number) }
     {
-        whole(&self.values, self.known, number)
+        whole(&self, number)
     }
 
     pub fn base(self, number: u8) -> Value
         ensures { result ≡ value_of self (reg 13 number) }
     {
-        base_in(&self.values, self.known, number)
+        base_in(&self, number)
     }
 
     // The same of two registers, the base and the index of an address: the file is copied once for both.
@@ -214,8 +187,8 @@ impl RegisterFile {
         ensures { result ≡ two_values self base index }
     {
         TwoValues {
-            base: value_in(&self.values, self.known, base),
-            index: value_in(&self.values, self.known, index),
+            base: value_in(&self, base),
+            index: value_in(&self, index),
         }
     }
 }
@@ -227,6 +200,7 @@ struct Bases {
     gs: u64,
 }
 
+#[tactic(auto, using(crate::proofs::Segments::no_fs, crate::proofs::Segments::no_gs))]
 fn bases_in(b: &[u8]) -> Bases
     requires { FileLong b.now }
     ensures { (result.fs ≡ number_at b.now file_bytes 8) × (result.gs ≡ number_at b.now (file_bytes + 8) 8) }
@@ -241,13 +215,15 @@ fn bases_in(b: &[u8]) -> Bases
 }
 
 // The length of a file by its kind, 0 for no kind.
+#[tactic(auto, unfolding(crate::specs::Files::file_length))]
 pub fn length_of(kind: u8) -> usize
     ensures { result ≡ file_length kind }
 {
-    if kind == FILE_KIND {
-        return FILE_BYTES;
+    match kind {
+        FILE_KIND => FILE_BYTES,
+        BASED_KIND => BASED_BYTES,
+        _ => 0,
     }
-    if kind == BASED_KIND { BASED_BYTES } else { 0 }
 }
 
 const PLAIN_END: u32 = 1 << PLAIN_SLOTS;
@@ -255,120 +231,100 @@ const PLAIN_END: u32 = 1 << PLAIN_SLOTS;
 const BASED_END: u32 = 1 << FILE_SLOTS;
 
 // The first number that is no known bits of a file of a kind.
+#[tactic(auto, unfolding(crate::specs::Files::file_values))]
 fn known_end(kind: u8) -> u32
     ensures { result ≡ 2 ^ file_values kind }
 {
-    if kind == FILE_KIND {
-        return PLAIN_END;
+    match kind {
+        FILE_KIND => PLAIN_END,
+        BASED_KIND => BASED_END,
+        _ => 1,
     }
-    if kind == BASED_KIND { BASED_END } else { 1 }
 }
 
-// Refusal 3 of a file's bytes, or 0.
-pub fn refusal_of(b: &[u8]) -> u8
-    ensures { result ≡ file_refusal b.now }
+// Whether bytes are a file: else they are refused.
+#[tactic(auto, using(crate::proofs::Answers::refused_empty, crate::proofs::Answers::refused_length, crate::proofs::Answers::has_bits, crate::proofs::Answers::not_refused, crate::proofs::Answers::refused_bits, crate::proofs::Answers::bad, crate::proofs::Answers::good))]
+pub fn check(b: &[u8]) -> Result<(), Refusal>
+    ensures { result ≡ answered_by (file_refusal b.now) tt }
 {
     if b.len() == 0 {
-        return 3;
+        return Err(Refusal::BadFile);
     }
     if b.len() != length_of(b[0]) {
-        return 3;
+        return Err(Refusal::BadFile);
     }
     if laws::u32_at(b, 1) < known_end(b[0]) {
-        0
+        Ok(())
     } else {
-        3
+        Err(Refusal::BadFile)
     }
 }
 
 // An element of a lent array is read where it stands, and that of a file by value once the whole file is copied. Most registers are
 // whole; what a file tells of the others is found without a jump on the bank.
-fn value_in(values: &[u64; FILE_SLOTS], known: u32, x: RegSpec) -> Value
-    ensures { result ≡ value_of (file_with values.now known) x }
+#[tactic(auto, using(crate::proofs::Told::told_known))]
+fn value_in(f: &RegisterFile, x: RegSpec) -> Value
+    ensures { result ≡ value_of f.now x }
 {
     if x.bank == 0 {
-        return whole(values, known, x.number);
+        return whole(f, x.number);
     }
     let k = slot_of(x);
     let i = k as usize;
-    let part = part_of(x, values[i]);
-    let told = is_told(x);
-    let set = is_set(known, k);
-    known_if(told & set, part)
+    let part = part_of(x, f.values[i]);
+    (is_told(x) & laws::is_set(f.known, k)).then_some(part)
 }
 
 // A general register.
 #[tactic(auto, using(crate::proofs::Told::whole_known, crate::proofs::Told::whole_untold))]
-fn whole(values: &[u64; FILE_SLOTS], known: u32, number: u8) -> Value
-    ensures { result ≡ value_of (file_with values.now known) (reg 0 number) }
+fn whole(f: &RegisterFile, number: u8) -> Value
+    ensures { result ≡ value_of f.now (reg 0 number) }
 {
     let i = number as usize;
     if i < 16 {
-        let set = is_set(known, number);
-        known_if(set, values[i])
+        laws::is_set(f.known, number).then_some(f.values[i])
     } else {
-        Value::Unknown
+        None
     }
 }
 
 // The base of fs, and that of gs.
-fn base_in(values: &[u64; FILE_SLOTS], known: u32, number: u8) -> Value
-    ensures { result ≡ value_of (file_with values.now known) (reg 13 number) }
+#[tactic(auto, using(crate::proofs::Told::fs_known, crate::proofs::Told::gs_known, crate::proofs::Told::base_untold))]
+fn base_in(f: &RegisterFile, number: u8) -> Value
+    ensures { result ≡ value_of f.now (reg 13 number) }
 {
     if number == 0 {
-        let set = is_set(known, 17);
-        return known_if(set, values[17]);
+        return laws::is_set(f.known, 17).then_some(f.values[17]);
     }
     if number == 1 {
-        let set = is_set(known, 18);
-        return known_if(set, values[18]);
+        return laws::is_set(f.known, 18).then_some(f.values[18]);
     }
-    Value::Unknown
-}
-
-fn known_if(set: bool, word: u64) -> Value
-    ensures { (result ≡ cond set (Known word) Unknown) × (word < 2 ^ 64) }
-{
-    if set {
-        Value::Known(word)
-    } else {
-        Value::Unknown
-    }
-}
-
-fn is_set(known: u32, k: u8) -> bool
-    requires { k < file_slots }
-    ensures { result ≡ bit known k }
-{
-    (known >> k) % 2 == 1
+    None
 }
 
 // Whether a file tells of it: general registers and their parts, RIP and EIP, the bases of fs and gs.
+#[tactic(auto, unfolding(crate::specs::Told::is_told))]
 fn is_told(x: RegSpec) -> bool
     ensures { result ≡ is_told x }
 {
     x.number < told_numbers(x.bank)
 }
 
+#[tactic(auto, unfolding(crate::specs::Told::told_numbers))]
 fn told_numbers(bank: u8) -> u8
     ensures { result ≡ told_numbers bank }
 {
-    if bank < 4 {
-        return 16;
+    match bank {
+        0..=3 => 16,
+        4 => 8,
+        9 | 10 => 1,
+        13 => 2,
+        _ => 0,
     }
-    if bank == 4 {
-        return 8;
-    }
-    if bank == 9 {
-        return 1;
-    }
-    if bank == 10 {
-        return 1;
-    }
-    if bank == 13 { 2 } else { 0 }
 }
 
 // Which of a file's values it is a part of, where a file tells of it.
+#[tactic(auto, unfolding(crate::specs::Told::told_slot))]
 fn slot_of(x: RegSpec) -> u8
     ensures { (result ≡ told_slot x) × (result < file_slots) }
 {
@@ -386,6 +342,7 @@ fn slot_of(x: RegSpec) -> u8
 }
 
 // Which part of it: Q and RIP are the whole; ah, ch, dh and bh the second byte.
+#[tactic(auto, unfolding(crate::specs::Told::told_part))]
 fn part_of(x: RegSpec, word: u64) -> u64
     ensures { (result ≡ told_part x word) × (word < 2 ^ 64) }
 {
@@ -408,6 +365,7 @@ fn part_of(x: RegSpec, word: u64) -> u64
     }
 }
 
+#[tactic(auto, unfolding(crate::specs::Told::told_byte))]
 fn byte_of(number: u8, word: u64) -> u64
     ensures { result ≡ told_byte number word }
 {

@@ -1,5 +1,6 @@
 -- A part of an operand, by its spec: the steps of the definition under a file are the events that the writers write from what the
 -- file says of the record's registers. Assumes nothing.
+use Rattle.std.specs.Prelude.{Some}
 use Prim.Native.Nat.{ℕ, ◌%◌, ◌^◌, ◌≤◌, zero-le}
 use mathlib.Core.Path.{◌≡◌, refl, sym, ap, ◌∙◌}
 use mathlib.Core.Bool.{Bool, true, false, cond}
@@ -13,8 +14,7 @@ use Rattle.laws.proofs.Span.{all, span}
 use Rattle.registers.specs.declared.RegSpec.{RegSpec}
 use Rattle.registers.specs.declared.RegisterFile.{RegisterFile}
 use Rattle.registers.specs.Files.{value_of}
-use Rattle.registers.specs.declared.Value.{Value}
-use Rattle.registers.specs.declared.Value.TheVariants.{Known}
+use Rattle.registers.specs.Values.{Value}
 use Rattle.implicit.specs.Lists.{rdi, rsi, edi, esi}
 use Rattle.implicit.specs.declared.Way.{Way}
 use Rattle.implicit.specs.declared.Way.TheVariants.{Read, Write}
@@ -93,7 +93,7 @@ module _ (f : RegisterFile) (x : Record) where
   unfolding based_of
   own a = by (eqb x.segment 0)
     where
-      by : (t : Bool) → cond t (address_of f a) (based_on base (address_of f a)) ≡ sum_of (cond t (Known 0) base) (address_of f a)
+      by : (t : Bool) → cond t (address_of f a) (based_on base (address_of f a)) ≡ sum_of (cond t (Some 0) base) (address_of f a)
       by true = unmoved f a
       by false = refl
 

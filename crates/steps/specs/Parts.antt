@@ -1,9 +1,8 @@
 -- The parts of explicit operands as events, from what the record's addresses are made of: no register file enters.
-use Rattle.std.specs.Prelude.{ℕ, zero, suc, ◌+◌, ◌*◌, ◌/◌, ◌%◌, ◌^◌, ◌≤◌, ◌≡◌, List, [], ◌∷◌, cond, length, get_or, ltb, eqb}
+use Rattle.std.specs.Prelude.{ℕ, zero, suc, ◌+◌, ◌*◌, ◌/◌, ◌%◌, ◌^◌, ◌≤◌, ◌≡◌, List, [], ◌∷◌, cond, length, get_or, ltb, eqb, Some}
 use Rattle.laws.specs.Words.{bit}
 use Rattle.laws.specs.Lists.{flat}
-use Rattle.registers.specs.declared.Value.{Value}
-use Rattle.registers.specs.declared.Value.TheVariants.{Known}
+use Rattle.registers.specs.Values.{Value}
 use Rattle.implicit.specs.Lists.{rdi, rsi, edi, esi}
 use Rattle.implicit.specs.declared.Way.{Way}
 use Rattle.implicit.specs.declared.Way.TheVariants.{Read, Write}
@@ -53,7 +52,7 @@ parts x w at g =
     ∷ indexed_events x w 0 (plus_of (sum_of at.base at.index) (signed32 x.disp)) g
     ∷ indexed_events x w x.mask (plus_of (sum_of at.base at.index) (signed32 x.disp)) g
     -- DispU64, DispU32
-    ∷ access_events x w (plus_of (Known 0) x.disp) g ∷ access_events x w (plus_of (Known 0) (x.disp % 2 ^ 32)) g
+    ∷ access_events x w (plus_of (Some 0) x.disp) g ∷ access_events x w (plus_of (Some 0) (x.disp % 2 ^ 32)) g
     ∷ []
 
 unfoldable pub part_events : Record → Way → Sources → Value → ℕ → List Event
@@ -65,7 +64,7 @@ part_segment x w s = cond (stops x w) 0 (cond (takes_base s) x.segment 0)
 
 -- what it adds: nothing for no segment
 abbrev pub added_by : ℕ → Value → Value
-added_by s g = cond (eqb s 0) (Known 0) g
+added_by s g = cond (eqb s 0) (Some 0) g
 
 -- a part of an operand, and the base of its segment before it
 unfoldable pub based_events : Record → Way → Sources → ℕ → List Event

@@ -108,14 +108,14 @@ fn put_part(log: &mut [u8], b: &[u8], spec: u8, way: Way, at: Sources, added: Va
             log,
             b,
             way,
-            plus(Value::Known(0), record::disp_in(b)),
+            plus(Some(0), record::disp_in(b)),
             added,
         ),
         35 => put_access(
             log,
             b,
             way,
-            plus(Value::Known(0), record::disp_in(b) % 0x1_0000_0000),
+            plus(Some(0), record::disp_in(b) % 0x1_0000_0000),
             added,
         ),
         _ => 0,
@@ -149,7 +149,7 @@ fn segment_of(b: &[u8], spec: u8, way: Way) -> u8
 fn added_by(segment: u8, base: Value) -> Value
     ensures { result ≡ added_by segment base }
 {
-    if segment == 0 { Value::Known(0) } else { base }
+    if segment == 0 { Some(0) } else { base }
 }
 
 // The base of its segment is read before all else of a part.

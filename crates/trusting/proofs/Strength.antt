@@ -1,10 +1,10 @@
 -- What may change does change, by computing. Assumes nothing.
+use Rattle.std.specs.Prelude.{Some, None}
 use Prim.Native.Nat.{ℕ}
 use mathlib.Core.Path.{◌≡◌, refl}
 use mathlib.Core.Bool.{true}
 use Rattle.registers.specs.Files.{file_of, is_file, slot_of}
-use Rattle.registers.specs.declared.Value.{Value}
-use Rattle.registers.specs.declared.Value.TheVariants.{Known, Unknown}
+use Rattle.registers.specs.Values.{Value}
 use Rattle.promises.specs.Refinement.{Gives}
 use Rattle.promises.proofs.Opened.{opened}
 use Rattle.watching.specs.Verdicts.{bytes_from, among, judged, store_verdict, verdict_of}
@@ -38,8 +38,8 @@ blind_knowing a =
     }
 
 gives_itself : (x : Value) → Gives x x
-gives_itself (Known n) = refl
-gives_itself Unknown = tt
+gives_itself (Some n) = refl
+gives_itself None = tt
 
 knowing_itself : (p : Pair) → is_file p.1 ≡ true → Knowing p p
 knowing_itself p h =

@@ -1,4 +1,5 @@
 -- Trust over a whole recording, from demand 3 and lists. Assumes nothing.
+use Rattle.std.specs.Prelude.{None}
 use Prim.Native.Nat.{ℕ, zero, suc, ◌+◌, ◌^◌, ◌≤◌}
 use native.Mathlib.Omega.{arith}
 use native.Mathlib.Nat.{le_refl, zero-div}
@@ -11,7 +12,6 @@ use borrow.Author.Tests.{lt-ltb, ltb-true, eq-eqb, ne_eqb, eqb-true, eqb-false}
 use Rattle.laws.specs.Words.{bit}
 use Rattle.registers.specs.Files.{file_of, is_file, no_file, slot_of}
 use Rattle.registers.specs.declared.RegisterFile.{RegisterFile}
-use Rattle.registers.specs.declared.Value.TheVariants.{Unknown}
 use Rattle.definition.specs.Steps.{steps_of}
 use Rattle.definition.specs.Visits.{fixed_record, log_of, visit_under, visit_of, number_of}
 use Rattle.definition.specs.declared.Answer.{Answer}
@@ -215,7 +215,7 @@ and_false : (t : Bool) → (t && false) ≡ false
 and_false true = refl
 and_false false = refl
 
-pub knows_nothing : (f : RegisterFile) (k : ℕ) → f.known ≡ 0 → slot_of f k ≡ Unknown
+pub knows_nothing : (f : RegisterFile) (k : ℕ) → f.known ≡ 0 → slot_of f k ≡ None
 unfolding slot_of
 knows_nothing f k e = simp (e, bit_none k, and_false)
 

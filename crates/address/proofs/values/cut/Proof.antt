@@ -1,5 +1,5 @@
+use Rattle.std.specs.Prelude.{Some, None}
 use Rattle.std.proofs.Common.{ap, rules}
-use Rattle.registers.specs.declared.Value.TheVariants.{Known}
 use Rattle.address.proofs.values.cut.Statement.{statement}
 use Rattle.address.proofs.values.cut.Tie as tie
 
@@ -15,11 +15,11 @@ low_if_requires c κs = search rules
 enum_told : tie.Need-enum_told-1
 enum_told c = search rules
 
-returns : tie.Need-returns-in-Known
-returns c = rw (c.in-Known.is, ← c.address_size_in-short.ensures) (ap Known c.low_if.ensures)
+returns : tie.Need-returns-in-Some
+returns c = rw (c.in-Some.is, ← c.address_size_in-short.ensures) (ap Some c.low_if.ensures)
 
-returns_2 : tie.Need-returns-in-Unknown
-returns_2 c = rw c.in-Unknown.is
+returns_2 : tie.Need-returns-in-None
+returns_2 c = rw c.in-None.is
 
 pub cut_spec : {M : Type 1} → statement M
 cut_spec =

@@ -1,5 +1,5 @@
+use Rattle.std.specs.Prelude.{Some, None}
 use Rattle.std.proofs.Common.{ap, rules}
-use Rattle.registers.specs.declared.Value.TheVariants.{Known}
 use Rattle.address.proofs.values.scaled.Statement.{statement}
 use Rattle.address.proofs.values.scaled.Tie as tie
 
@@ -12,10 +12,10 @@ times_requires c κs = search rules
 enum_told : tie.Need-enum_told-1
 enum_told c = search rules
 
-returns : tie.Need-returns-in-Known
-returns c = rw c.in-Known.is (ap Known c.times.ensures)
+returns : tie.Need-returns-in-Some
+returns c = rw c.in-Some.is (ap Some c.times.ensures)
 
-returns_2 : tie.Need-returns-in-Unknown
+returns_2 : tie.Need-returns-in-None
 returns_2 c = search rules
 
 pub scaled_spec : {M : Type 1} → statement M
