@@ -1,11 +1,11 @@
 -- What a record that is not refused keeps to, for those who call. Assumes nothing.
-use Rattle.std.specs.Prelude.{Ok}
+use Rattle.std.specs.Prelude.{Ok, Err}
 use Prim.Native.Nat.{ℕ, zero, suc, ◌+◌, ◌*◌, ◌%◌, ◌<◌, ◌≤◌}
 use native.Mathlib.Omega.{arith}
 use mathlib.Core.Path.{◌≡◌, refl, sym, ap, ◌∙◌}
 use mathlib.Core.List.{List, [], ◌∷◌}
 use mathlib.Core.Bool.{Bool, true, false, not, cond, ◌||◌, or_assoc, or-false}
-use lib.ListN.{length, get_or}
+use lib.ListN.{length, get_or, get_or-eq_default}
 use lib.Dec.{eqb, ltb, lit≤}
 use borrow.Author.Tests.{eqb-true, ltb-true, ltb-false, not-false, eq-eqb, ne_eqb, lt-ltb, le-ltb}
 use Rattle.laws.specs.Words.{number_at}
@@ -15,12 +15,15 @@ use Rattle.laws.proofs.Every.{Every, every_at, every_weaken, any_false, first_ze
 use Rattle.registers.specs.Banks.{reg, is_register}
 use Rattle.registers.specs.declared.RegSpec.{RegSpec}
 use Rattle.digest.specs.Digests.{digest_in}
+use Rattle.digest.specs.declared.BehaviorDigest.{BehaviorDigest}
 use Rattle.everyday.specs.Rows.{unlisted, everyday_digest, is_everyday}
 use Rattle.everyday.proofs.Laws.{held}
-use Rattle.record.specs.Records.{record_kind, segment_kind, everyday_kind, everyday_bytes, record_bytes, segment_bytes, record_length, is_record, RecordLong, brought_digest, record_digest, record_of, outside, lacks_digest, record_tests, record_refusal, record_answer, no_record, spec_at, reg_at}
+use Rattle.record.specs.Records.{record_kind, segment_kind, everyday_kind, everyday_bytes, record_bytes, segment_bytes, record_length, is_record, RecordLong, brought_digest, record_digest, record_of, outside, lacks_digest, record_tests, record_refusal, record_answer, spec_at, reg_at}
 use Rattle.record.specs.declared.Record.{Record}
-use Rattle.record.specs.declared.RecordAnswer.{RecordAnswer}
 use Rattle.record.specs.Halves.{plain_record, completed_record}
+use Rattle.laws.specs.Refusals.{answered_by, refused_by}
+use Rattle.laws.proofs.Answered.{not_refused}
+use Rattle.laws.specs.declared.refusals.Refusal.TheVariants.{Malformed, Outside, Unlisted}
 
 -- four tests, joined as code joins them
 pub some_of_four : (a b c d : Bool) → (a || b || c || d) ≡ (a || (b || (c || (d || false))))
@@ -121,8 +124,40 @@ module _ (b : List ℕ) where
   unfolding lacks_digest
   own_lacks ne = rw (own_digest ne)
 
+-- the same as the code reads it
+module _ (b : List ℕ) where
+  pub digest_listed :
+      {n : ℕ} {d : BehaviorDigest}
+      → d ≡ digest_in (everyday_digest n) → n ≡ number_at b 1 2 → get_or b 0 0 ≡ everyday_kind → d ≡ digest_in (record_digest b)
+  digest_listed p q e = rw (listed_digest b e, ← q) p
+
+  pub digest_own :
+      {n : ℕ}
+      → n ≡ number_at b 38 2 → (get_or b 0 0 ≡ everyday_kind → ⊥)
+      → ◌≡◌ {A = BehaviorDigest} (record { behavior = get_or b 36 0; operands = get_or b 37 0; extra = n }) (digest_in (record_digest b))
+  digest_own q ne = rw (own_digest b ne, q)
+
+  pub own_outside : {n : ℕ} → n ≡ number_at b 38 2 → (get_or b 0 0 ≡ everyday_kind → ⊥) → ltb 28 n ≡ ltb 28 (record_of b).digest.extra
+  own_outside q ne = rw (own_list b ne, q)
+
+  pub listed_within : get_or b 0 0 ≡ everyday_kind → not (eqb (get_or b 0 0) everyday_kind) ≡ ltb 28 (record_of b).digest.extra
+  listed_within e = rw (eq-eqb _ _ e) (listed_inside b e)
+
 -- The refusal, test by test
 module _ (b : List ℕ) where
+  -- what is answered by its number
+  pub malformed : 1 ≡ record_refusal b → Err Malformed ≡ answered_by (record_refusal b) (tt {0})
+  malformed e = rw (← e)
+
+  pub beyond : 2 ≡ record_refusal b → Err Outside ≡ answered_by (record_refusal b) (tt {0})
+  beyond e = rw (← e)
+
+  pub undigested : unlisted ≡ record_refusal b → Err Unlisted ≡ answered_by (record_refusal b) (tt {0})
+  undigested e = rw (← e)
+
+  pub whole : 0 ≡ record_refusal b → Ok tt ≡ answered_by (record_refusal b) (tt {0})
+  whole e = rw (← e)
+
   pub refused_empty : length b ≡ 0 → 1 ≡ record_refusal b
   unfolding record_refusal first_of is_record
   refused_empty e = rw (le-ltb 0 (length b) (omega arith))
@@ -140,8 +175,21 @@ module _ (b : List ℕ) where
       unfolding record_refusal first_of is_record
       by_fields p q = rw (p, q, lt-ltb 0 (length b) (omega (arith, some)), eq-eqb (length b) (record_length (get_or b 0 0)) (long ∙ e))
 
+      pub by_digest : {u : Bool} → false ≡ outside (record_of b) → u ≡ lacks_digest b → cond u unlisted 0 ≡ record_refusal b
+      by_digest p q = by_fields p q
+
       pub refused_fields : true ≡ outside (record_of b) → 2 ≡ record_refusal b
       refused_fields p = by_fields p refl
+
+-- the segment, in a kind that has its byte and in one that has none
+module _ (b : List ℕ) where
+  pub segment_there : record_bytes < length b → get_or b record_bytes 0 ≡ (record_of b).segment
+  unfolding record_of
+  segment_there h = refl
+
+  pub no_segment : length b ≤ record_bytes → 0 ≡ (record_of b).segment
+  unfolding record_of
+  no_segment h = sym (get_or-eq_default b 0 {n = record_bytes} h)
 
 -- what it is that is not refused
 pub record Passed (b : List ℕ) : Type 0 where
@@ -156,26 +204,19 @@ passed b e =
     record { is = not-false (is_record b) t.0; in_tables = t.1.0; digested = t.1.1.0 }
 
 -- the answer's number is the refusal
-pub answer_number : (b : List ℕ) → (record_answer b).number ≡ record_refusal b
-unfolding record_answer
-answer_number b = by (eqb (record_refusal b) 0) refl
+pub answer_number : (b : List ℕ) → refused_by (record_answer b) ≡ record_refusal b
+unfolding record_refusal first_of
+answer_number b = by (not (is_record b)) (outside (record_of b)) (lacks_digest b)
   where
-    by : (t : Bool) → eqb (record_refusal b) 0 ≡ t → (cond {A = RecordAnswer} t (record { number = 0; read = record_of b }) (record { number = record_refusal b; read = no_record })).number ≡ record_refusal b
-    by true e = sym (eqb-true (record_refusal b) 0 e)
-    by false e = refl
+    by : (t u v : Bool) → refused_by (answered_by (cond t 1 (cond u 2 (cond v unlisted 0))) (record_of b)) ≡ cond t 1 (cond u 2 (cond v unlisted 0))
+    by true u v = refl
+    by false true v = refl
+    by false false true = refl
+    by false false false = refl
 
 -- and where it is 0 the record is answered
-pub answer_read : (b : List ℕ) → record_refusal b ≡ 0 → (record_answer b).read ≡ record_of b
-unfolding record_answer
-answer_read b e = rw e
-
--- the same of what a call was answered
-module _ (b : List ℕ) {r : RecordAnswer} (e : r ≡ record_answer b) where
-  pub number_is : r.number ≡ record_refusal b
-  number_is = ap (λ (a : RecordAnswer). a.number) e ∙ answer_number b
-
-  pub read_is : r.number ≡ 0 → r.read ≡ record_of b
-  read_is z = ap (λ (a : RecordAnswer). a.read) e ∙ answer_read b (sym number_is ∙ z)
+pub answer_read : (b : List ℕ) → record_refusal b ≡ 0 → record_answer b ≡ Ok (record_of b)
+answer_read b e = not_refused (record_refusal b) (record_of b) e
 
 -- a record in its two halves
 pub halves : (b : List ℕ) → completed_record (plain_record b) b ≡ record_of b

@@ -8,8 +8,8 @@ use Rattle.digest.specs.Digests.{empty_digest, digest_number, digest_in}
 use Rattle.digest.specs.declared.BehaviorDigest.{BehaviorDigest}
 use Rattle.everyday.specs.Rows.{unlisted, everyday_digest}
 use Rattle.record.specs.declared.Record.{Record}
-use Rattle.record.specs.declared.RecordAnswer.{RecordAnswer}
 use Rattle.laws.specs.declared.refusals.Refusal.{Refusal}
+use Rattle.laws.specs.Refusals.{answered_by}
 
 -- the kinds of records, and their lengths: the second has one byte more, which names a segment; the third has no digest
 abbrev pub record_kind : ℕ
@@ -98,31 +98,9 @@ record_tests b = (not (is_record b), 1) ∷ (outside (record_of b), 2) ∷ (lack
 unfoldable pub record_refusal : List ℕ → ℕ
 record_refusal b = first_of (record_tests b)
 
--- a record whose numbers are all 0
-unfoldable pub no_record : Record
-no_record =
-    record {
-      opcode = 0;
-      count = 0;
-      specs = replicate 4 0;
-      regs = replicate 4 (reg 0 0);
-      size = 0;
-      scale = 0;
-      disp = 0;
-      imm = 0;
-      prefixes = 0;
-      mask = 0;
-      digest = empty_digest;
-      segment = 0;
-    }
-
-abbrev pub refused_record : ℕ → RecordAnswer
-refused_record n = record { number = n; read = no_record }
-
--- the record, or the refusal and every other number 0
-unfoldable pub record_answer : List ℕ → RecordAnswer
-record_answer b =
-    cond (eqb (record_refusal b) 0) (record { number = 0; read = record_of b }) (refused_record (record_refusal b))
+-- the record, or the refusal
+abbrev pub record_answer : List ℕ → Result Record Refusal
+record_answer b = answered_by (record_refusal b) (record_of b)
 
 -- a record, but for its digest
 abbrev pub with_digest : Record → BehaviorDigest → Record

@@ -3,13 +3,14 @@
 
 ghost use Rattle.std.specs.Prelude.{◌≡◌, not, ◌+◌, ◌≤◌, ◌<◌, ◌∷◌, [], length, get_or, ltb};
 ghost use Rattle.digest.specs.Digests.{digest_in};
-ghost use Rattle.laws.specs.Words.{bit};
+ghost use Rattle.laws.specs.Refusals.{answered_by};
 ghost use Rattle.laws.specs.Tests.{any};
 ghost use Rattle.registers.specs.Banks.{is_register};
-ghost use Rattle.record.specs.Records.{everyday_kind, everyday_bytes, record_length, RecordLong, record_digest, record_of, lacks_digest, outside, record_refusal, refused_record, record_answer, spec_at, vex_w, address_size};
+ghost use Rattle.record.specs.Records.{everyday_kind, everyday_bytes, record_length, RecordLong, record_digest, record_of, lacks_digest, outside, record_refusal, record_answer, spec_at, vex_w, address_size};
 ghost use Rattle.record.specs.Halves.{plain_record, completed_record};
 
 use digest::BehaviorDigest;
+use laws::Refusal;
 use registers::RegSpec;
 
 mod fields; // fields.rt: its fields, where they stand in its lent bytes
@@ -32,9 +33,6 @@ pub const RECORD_BYTES: usize = EVERYDAY_BYTES + 4;
 
 pub const SEGMENT_BYTES: usize = RECORD_BYTES + 1;
 
-// What an opcode that has no digest is refused with.
-pub const UNLISTED: u8 = 9;
-
 // The fields of a record, in their order: `size` is document 01's `mem_size`.
 #[derive(Clone, Copy)]
 pub struct Record {
@@ -52,59 +50,16 @@ pub struct Record {
     pub segment: u8,
 }
 
-// A record, or a refusal number and a record whose numbers are all 0.
-#[derive(Clone, Copy)]
-pub struct RecordAnswer {
-    pub number: u8,
-    pub read: Record,
-}
-
 impl Record {
-    // The record in its bytes, or refusal 1, 2 or 9.
-    pub fn from_bytes(b: &[u8]) -> RecordAnswer
+    // The record in its bytes, where they are not refused.
+    pub fn from_bytes(b: &[u8]) -> Result<Record, Refusal>
         ensures { result ≡ record_answer b.now }
     {
-        let number = refusal_of(b);
-        if number != 0 {
-            return Record::refused(number);
-        }
-        let read = Record::parse(b);
-        RecordAnswer {
-            number: 0,
-            read: read,
-        }
+        check(b)?;
+        Ok(Record::parse(b))
     }
 
-    fn refused(number: u8) -> RecordAnswer
-        ensures { result ≡ refused_record number }
-    {
-        let specs = [0; 4];
-        let regs = [RegSpec { bank: 0, number: 0 }; 4];
-        let digest = BehaviorDigest {
-            behavior: 0,
-            operands: 0,
-            extra: 0,
-        };
-        let read = Record {
-            opcode: 0,
-            count: 0,
-            specs: specs,
-            regs: regs,
-            size: 0,
-            scale: 0,
-            disp: 0,
-            imm: 0,
-            prefixes: 0,
-            mask: 0,
-            digest: digest,
-            segment: 0,
-        };
-        RecordAnswer {
-            number: number,
-            read: read,
-        }
-    }
-
+    #[tactic(auto, using(crate::proofs::Laws::halves))]
     pub fn parse(b: &[u8]) -> Record
         requires { RecordLong b.now }
         ensures { result ≡ record_of b.now }
@@ -113,34 +68,31 @@ impl Record {
     }
 
     // What every kind holds at the same places. It and `completed` are short enough to be inlined, where `parse` is not.
+    #[tactic(auto, unfolding(crate::specs::Halves::plain_record, crate::specs::Records::record_of))]
     pub fn plain(b: &[u8]) -> Record
         requires { RecordLong b.now }
         ensures { result ≡ plain_record b.now }
     {
         let specs = [spec_in(b, 0), spec_in(b, 1), spec_in(b, 2), spec_in(b, 3)];
         let regs = [reg_in(b, 0), reg_in(b, 1), reg_in(b, 2), reg_in(b, 3)];
-        let digest = BehaviorDigest {
-            behavior: 0,
-            operands: 0,
-            extra: 0,
-        };
         Record {
             opcode: opcode_in(b),
             count: count_in(b),
-            specs: specs,
-            regs: regs,
+            specs,
+            regs,
             size: size_in(b),
             scale: b[17],
             disp: disp_in(b),
             imm: laws::u64_at(b, 26),
             prefixes: b[34],
             mask: mask_in(b),
-            digest: digest,
+            digest: BehaviorDigest::empty(),
             segment: 0,
         }
     }
 
     // With what hangs on the kind: the digest and the segment.
+    #[tactic(auto, unfolding(crate::specs::Halves::completed_record, crate::specs::Records::record_of))]
     pub fn completed(mut self, b: &[u8]) -> Record
         requires { RecordLong b.now }
         ensures { result ≡ completed_record self b.now }
@@ -151,6 +103,7 @@ impl Record {
     }
 
     // One of four numbers, by a test for each: an array that is asked at a place lies in memory.
+    #[tactic(auto, using(crate::proofs::Laws::four_of_lem))]
     pub fn spec(self, i: u8) -> u8
         ensures { result ≡ spec_at self i }
     {
@@ -166,50 +119,47 @@ impl Record {
     pub fn vex_w(self) -> bool
         ensures { result ≡ vex_w self }
     {
-        has_bit(self.prefixes, 0)
+        laws::is_set(self.prefixes as u32, 0)
     }
 
     pub fn address_size(self) -> bool
         ensures { result ≡ address_size self }
     {
-        has_bit(self.prefixes, 3)
+        laws::is_set(self.prefixes as u32, 3)
     }
 }
 
 // The length of a record by its kind, 0 for no kind.
+#[tactic(auto, unfolding(crate::specs::Records::record_length))]
 pub fn length_of(kind: u8) -> usize
     ensures { result ≡ record_length kind }
 {
-    if kind == RECORD_KIND {
-        return RECORD_BYTES;
-    }
-    if kind == SEGMENT_KIND {
-        return SEGMENT_BYTES;
-    }
-    if kind == EVERYDAY_KIND {
-        EVERYDAY_BYTES
-    } else {
-        0
+    match kind {
+        RECORD_KIND => RECORD_BYTES,
+        SEGMENT_KIND => SEGMENT_BYTES,
+        EVERYDAY_KIND => EVERYDAY_BYTES,
+        _ => 0,
     }
 }
 
-// The refusal of a record's bytes: 1, 2 or 9, or 0.
-pub fn refusal_of(b: &[u8]) -> u8
-    ensures { result ≡ record_refusal b.now }
+// Whether bytes are a record: else they are refused, for the first test that fails.
+#[tactic(auto, using(crate::proofs::Laws::refused_empty, crate::proofs::Laws::refused_length, crate::proofs::Laws::has_fields, crate::proofs::Laws::refused_fields, crate::proofs::Laws::by_digest, crate::proofs::Laws::malformed, crate::proofs::Laws::beyond, crate::proofs::Laws::undigested, crate::proofs::Laws::whole))]
+pub fn check(b: &[u8]) -> Result<(), Refusal>
+    ensures { result ≡ answered_by (record_refusal b.now) tt }
 {
     if b.len() == 0 {
-        return 1;
+        return Err(Refusal::Malformed);
     }
     if b.len() != length_of(b[0]) {
-        return 1;
+        return Err(Refusal::Malformed);
     }
     if is_outside(b) {
-        return 2;
+        return Err(Refusal::Outside);
     }
     if lacks_digest(b) {
-        return UNLISTED;
+        return Err(Refusal::Unlisted);
     }
-    0
+    Ok(())
 }
 
 fn one_of(i: u8, a: u8, b: u8, c: u8, d: u8) -> u8
@@ -224,14 +174,8 @@ fn one_of(i: u8, a: u8, b: u8, c: u8, d: u8) -> u8
     }
 }
 
-fn has_bit(v: u8, k: u8) -> bool
-    requires { k < 8 }
-    ensures { result ≡ bit v k }
-{
-    (v >> k) % 2 == 1
-}
-
 // The digest that the bytes bring, or that of the opcode in the kind that brings none.
+#[tactic(auto, using(crate::proofs::Laws::digest_listed, crate::proofs::Laws::digest_own))]
 fn digest_in(b: &[u8]) -> BehaviorDigest
     requires { RecordLong b.now }
     ensures { result ≡ digest_in (record_digest b.now) }
@@ -246,6 +190,7 @@ fn digest_in(b: &[u8]) -> BehaviorDigest
     }
 }
 
+#[tactic(auto, using(crate::proofs::Laws::listed_lacks, crate::proofs::Laws::own_lacks))]
 fn lacks_digest(b: &[u8]) -> bool
     requires { everyday_bytes ≤ length b.now }
     ensures { result ≡ lacks_digest b.now }
@@ -254,6 +199,7 @@ fn lacks_digest(b: &[u8]) -> bool
 }
 
 // Whether some number of a record is outside its table.
+#[tactic(auto, unfolding(laws::specs::Tests::any, crate::specs::Records::outside, crate::specs::Records::record_of))]
 fn is_outside(b: &[u8]) -> bool
     requires { RecordLong b.now }
     ensures { result ≡ outside (record_of b.now) }
@@ -269,6 +215,7 @@ fn is_outside(b: &[u8]) -> bool
 }
 
 // A list that the bytes bring: those of the opcodes are all inside.
+#[tactic(auto, using(crate::proofs::Laws::own_outside, crate::proofs::Laws::listed_within))]
 fn has_bad_list(b: &[u8]) -> bool
     requires { RecordLong b.now }
     ensures { result ≡ ltb 28 (record_of b.now).digest.extra }
@@ -276,37 +223,20 @@ fn has_bad_list(b: &[u8]) -> bool
     b[0] != EVERYDAY_KIND && 28 < laws::u16_at(b, 38)
 }
 
-#[tactic(auto, using(crate::proofs::Specs::first_bad, crate::proofs::Specs::second_bad, crate::proofs::Specs::third_bad, crate::proofs::Specs::last_bad))]
+#[tactic(auto, unfolding(laws::specs::Tests::any, crate::specs::Records::record_of))]
 fn has_bad_spec(b: &[u8]) -> bool
     requires { everyday_bytes ≤ length b.now }
     ensures { result ≡ any (λ s. ltb 35 s) (record_of b.now).specs }
 {
-    if 35 < b[4] {
-        return true;
-    }
-    if 35 < b[5] {
-        return true;
-    }
-    if 35 < b[6] {
-        return true;
-    }
-    35 < b[7]
+    35 < b[4] || 35 < b[5] || 35 < b[6] || 35 < b[7]
 }
 
+#[tactic(auto, unfolding(laws::specs::Tests::any, crate::specs::Records::record_of))]
 fn has_bad_reg(b: &[u8]) -> bool
     requires { everyday_bytes ≤ length b.now }
     ensures { result ≡ any (λ y. not (is_register y.bank y.number)) (record_of b.now).regs }
 {
-    if is_bad(b[8], b[9]) {
-        return true;
-    }
-    if is_bad(b[10], b[11]) {
-        return true;
-    }
-    if is_bad(b[12], b[13]) {
-        return true;
-    }
-    is_bad(b[14], b[15])
+    is_bad(b[8], b[9]) || is_bad(b[10], b[11]) || is_bad(b[12], b[13]) || is_bad(b[14], b[15])
 }
 
 fn is_bad(bank: u8, number: u8) -> bool
