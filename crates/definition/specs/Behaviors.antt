@@ -1,16 +1,12 @@
 -- The digest after fix-ups, and what the calls on a record alone answer: digest, privilege, exceptions.
-use Rattle.std.specs.Prelude.{ℕ, ◌+◌, ◌^◌, List, [], ◌∷◌, Bool, true, false, not, cond, ◌&&◌, take, ltb, leb, eqb}
+use Rattle.std.specs.Prelude.{ℕ, ◌+◌, ◌^◌, List, [], ◌∷◌, Bool, true, false, not, cond, ◌&&◌, take, ltb, leb, eqb, Result, Ok, Err}
 use Rattle.laws.specs.Tests.{any, some_of}
 use Rattle.access.specs.Exceptions.{info_of}
 use Rattle.access.specs.Privileges.{level_of}
-use Rattle.access.specs.declared.InfoAnswer.{InfoAnswer}
-use Rattle.access.specs.declared.InfoAnswer.TheVariants as infos
 use Rattle.access.specs.declared.PrivilegeLevel.{PrivilegeLevel}
 use Rattle.registers.specs.Banks.{width_of}
 use Rattle.digest.specs.Digests.{privilege_of, access_at, is_nontrivial, is_complex, with_access, with_list}
 use Rattle.digest.specs.declared.BehaviorDigest.{BehaviorDigest}
-use Rattle.digest.specs.declared.DigestAnswer.{DigestAnswer}
-use Rattle.digest.specs.declared.DigestAnswer.TheVariants as digests
 use Rattle.implicit.specs.Lists.{implicit_of}
 use Rattle.implicit.specs.Memory.{memory_entry}
 use Rattle.record.specs.Records.{record_of, record_refusal, with_digest, spec_at, reg_at, vex_w, address_size}
@@ -18,8 +14,9 @@ use Rattle.record.specs.declared.Record.{Record}
 use Rattle.definition.specs.Tables.{shape_of, Rule, no-rule, mul, imul, div, nop, cmpxchg, movhalf, extrq, insertq, return, mulx, maskmov, pcmpestri, pcmpestrm, loop, rule_of}
 use Rattle.definition.specs.declared.Shape.{Shape}
 use Rattle.definition.specs.declared.Shape.TheVariants.{Nothing, Register, Fourth, Immediate, Memory}
-use Rattle.definition.specs.declared.PrivilegeAnswer.{PrivilegeAnswer}
-use Rattle.definition.specs.declared.PrivilegeAnswer.TheVariants as privileges
+use Rattle.laws.specs.Refusals.{answered_by, refused_by}
+use Rattle.laws.specs.declared.refusals.Refusal.{Refusal}
+use Rattle.access.specs.declared.ExceptionInfo.{ExceptionInfo}
 
 -- an access that a fix-up sets
 abbrev none : ℕ
@@ -119,23 +116,22 @@ unfoldable pub exceptions_of : Record → ℕ
 exceptions_of x = cond (may_protect x) (2 ^ 13) 0 + cond (may_fault x) (2 ^ 14) 0
 
 -- what a call answers over a record's bytes: the refusal that they give, or what it says of the record
-abbrev pub over_record : {A : Type 0} → (ℕ → A) → (Record → A) → List ℕ → A
-over_record refused says b = cond (eqb (record_refusal b) 0) (says (record_of b)) (refused (record_refusal b))
+abbrev pub over_record : {A : Type 0} → (Record → A) → List ℕ → Result A Refusal
+over_record says b = answered_by (record_refusal b) (says (record_of b))
 
-unfoldable pub digest_call : List ℕ → DigestAnswer
-digest_call b = over_record digests.Refused (λ (x : Record). digests.Done (digest_of x)) b
+unfoldable pub digest_call : List ℕ → Result BehaviorDigest Refusal
+digest_call b = over_record digest_of b
 
-unfoldable pub privilege_call : List ℕ → PrivilegeAnswer
-privilege_call b = over_record privileges.Refused (λ (x : Record). privileges.Done (level_of (privilege_of (digest_of x)))) b
+unfoldable pub privilege_call : List ℕ → Result PrivilegeLevel Refusal
+privilege_call b = over_record (λ (x : Record). level_of (privilege_of (digest_of x))) b
 
-unfoldable pub exceptions_call : List ℕ → InfoAnswer
-exceptions_call b = over_record infos.Refused (λ (x : Record). infos.Done (info_of (exceptions_of (fixed_up x)))) b
+unfoldable pub exceptions_call : List ℕ → Result ExceptionInfo Refusal
+exceptions_call b = over_record (λ (x : Record). info_of (exceptions_of (fixed_up x))) b
 
 -- document 01's number of the privilege call's answer, and its level: that of number 0 where it is refused
-abbrev pub privilege_number : PrivilegeAnswer → ℕ
-privilege_number (privileges.Done l) = 0
-privilege_number (privileges.Refused n) = n
+abbrev pub privilege_number : Result PrivilegeLevel Refusal → ℕ
+privilege_number a = refused_by a
 
-abbrev pub privilege_in : PrivilegeAnswer → PrivilegeLevel
-privilege_in (privileges.Done l) = l
-privilege_in (privileges.Refused n) = level_of 0
+abbrev pub privilege_in : Result PrivilegeLevel Refusal → PrivilegeLevel
+privilege_in (Ok l) = l
+privilege_in (Err r) = level_of 0

@@ -1,7 +1,7 @@
 // The types that the definitions of specs/ speak of. No code stands here: what must be believed is read in specs/.
 #![tactic(auto)]
 
-use access::{Access, PrivilegeLevel};
+use access::Access;
 use implicit::ImplicitOperand;
 use registers::RegSpec;
 
@@ -86,11 +86,4 @@ pub enum Answer {
     Refused(u8),
     Complex(u16),
     Short(usize),
-}
-
-// What the privilege call answers: the level, or a refusal number.
-#[derive(Clone, Copy)]
-pub enum PrivilegeAnswer {
-    Done(PrivilegeLevel),
-    Refused(u8),
 }
