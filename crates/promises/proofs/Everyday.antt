@@ -29,6 +29,7 @@ use Rattle.definition.specs.Visits.{fixed_record, log_of, refusal_of, visit_by}
 use Rattle.definition.specs.Listings.{listing_of, listing_refusal, listing_call}
 use Rattle.promises.specs.Everyday.{opcode_in, digest_bytes, filled_in, Unlisted}
 use Rattle.promises.proofs.Fields.{same_record}
+use Rattle.record.proofs.Laws.{refused_number}
 
 module _ (t : List ℕ) (long : length t + 1 ≡ everyday_bytes) where
   abbrev bare : List ℕ
@@ -131,11 +132,7 @@ module _ (b : List ℕ) where
   pub nine_calls :
       (digest_number (digest_call b) ≡ record_refusal b) × (privilege_number (privilege_call b) ≡ record_refusal b) × (info_number (exceptions_call b) ≡ record_refusal b)
   unfolding digest_call privilege_call exceptions_call
-  nine_calls = by (eqb (record_refusal b) 0) refl
-    where
-      by : (z : Bool) → eqb (record_refusal b) 0 ≡ z → (digest_number (digest_call b) ≡ record_refusal b) × (privilege_number (privilege_call b) ≡ record_refusal b) × (info_number (exceptions_call b) ≡ record_refusal b)
-      by true e = let z = sym (eqb-true (record_refusal b) 0 e) in (rw e z, rw e z, rw e z)
-      by false e = (rw e refl, rw e refl, rw e refl)
+  nine_calls = (refused_number b _, refused_number b _, refused_number b _)
 
 -- tests behind that give no 9 leave it to the tests in front
 never_nine : (us : List (Bool × ℕ)) → Every (λ u. u.1 ≡ unlisted → ⊥) us → first_of us ≡ unlisted → ⊥

@@ -17,8 +17,8 @@ use Rattle.definition.specs.declared.Address.{Address}
 use Rattle.definition.specs.declared.Term.{Term}
 use Rattle.definition.specs.declared.Term.TheVariants.{Absent, Plain, Scaled}
 
-abbrev Some : RegisterFile → List RegSpec → Type 0
-Some f ys = (y : RegSpec) × Memᴰ y ys × (value_of f y ≡ None)
+abbrev SomeUnknown : RegisterFile → List RegSpec → Type 0
+SomeUnknown f ys = (y : RegSpec) × Memᴰ y ys × (value_of f y ≡ None)
 
 known_not : (v : ℕ) → Some v ≡ None → ⊥
 known_not v e = let z : ◌≡◌ {A = ℕ} 0 1 = cc in omega arith
@@ -32,14 +32,14 @@ after_either (Some v) k e = inr (v, e)
 after_either None k e = inl refl
 
 module _ (f : RegisterFile) where
-  term_to : (t : Term) → term_of f t ≡ None → Some f (term_registers t)
+  term_to : (t : Term) → term_of f t ≡ None → SomeUnknown f (term_registers t)
   unfolding term_of term_registers
   term_to Absent e = absurd (known_not 0 e)
   term_to (Plain y) e = (y, Memᴰ.head refl, e)
   term_to (Scaled y k) e =
       ⊎_elim (λ h. (y, Memᴰ.head refl, h)) (λ h. absurd (known_not _ h.1)) (after_either (value_of f y) _ e)
 
-  term_from : (t : Term) → Some f (term_registers t) → term_of f t ≡ None
+  term_from : (t : Term) → SomeUnknown f (term_registers t) → term_of f t ≡ None
   unfolding term_of term_registers
   term_from Absent s = absurd (Memᴰ.not-nil s.1)
   term_from (Plain y) s = ap (value_of f) (sym (Memᴰ.eq_of_singleton s.1)) ∙ s.2
@@ -49,7 +49,7 @@ module _ (f : RegisterFile) where
   second_unknown (Some v) k h = h v
   second_unknown None k h = refl
 
-  pub unknown_to : (a : Address) → address_of f a ≡ None → Some f (registers_of a)
+  pub unknown_to : (a : Address) → address_of f a ≡ None → SomeUnknown f (registers_of a)
   unfolding address_of registers_of
   unknown_to a e =
       ⊎_elim
@@ -60,7 +60,7 @@ module _ (f : RegisterFile) where
       (after_either (term_of f a.index) _ h.1))
       (after_either (term_of f a.base) _ e)
 
-  pub unknown_from : (a : Address) → Some f (registers_of a) → address_of f a ≡ None
+  pub unknown_from : (a : Address) → SomeUnknown f (registers_of a) → address_of f a ≡ None
   unfolding address_of registers_of
   unknown_from a s =
       ⊎_elim
@@ -74,14 +74,14 @@ module _ (f : RegisterFile) where
   based_first (Some u) None e = inr refl
   based_first (Some u) (Some a) e = absurd (known_not _ e)
 
-  pub based_to : (s : ℕ) (a : Address) → based_of f s (address_of f a) ≡ None → Some f (segment_registers s ++ registers_of a)
+  pub based_to : (s : ℕ) (a : Address) → based_of f s (address_of f a) ≡ None → SomeUnknown f (segment_registers s ++ registers_of a)
   unfolding based_of segment_registers
   based_to s a e = by (eqb s 0) e
     where
       y : RegSpec
       y = segment_register s
 
-      by : (t : Bool) → cond t (address_of f a) (based_on (value_of f y) (address_of f a)) ≡ None → Some f (cond t [] (y ∷ []) ++ registers_of a)
+      by : (t : Bool) → cond t (address_of f a) (based_on (value_of f y) (address_of f a)) ≡ None → SomeUnknown f (cond t [] (y ∷ []) ++ registers_of a)
       by true e = unknown_to a e
       by false e =
           ⊎_elim
@@ -89,14 +89,14 @@ module _ (f : RegisterFile) where
           (λ h. let r = unknown_to a h in (r.0, Memᴰ.append_right (y ∷ []) r.1, r.2))
           (based_first (value_of f y) (address_of f a) e)
 
-  pub based_from : (s : ℕ) (a : Address) → Some f (segment_registers s ++ registers_of a) → based_of f s (address_of f a) ≡ None
+  pub based_from : (s : ℕ) (a : Address) → SomeUnknown f (segment_registers s ++ registers_of a) → based_of f s (address_of f a) ≡ None
   unfolding based_of segment_registers
   based_from s a r = by (eqb s 0) r
     where
       y : RegSpec
       y = segment_register s
 
-      by : (t : Bool) → Some f (cond t [] (y ∷ []) ++ registers_of a) → cond t (address_of f a) (based_on (value_of f y) (address_of f a)) ≡ None
+      by : (t : Bool) → SomeUnknown f (cond t [] (y ∷ []) ++ registers_of a) → cond t (address_of f a) (based_on (value_of f y) (address_of f a)) ≡ None
       by true r = unknown_from a r
       by false r =
           ⊎_elim

@@ -1,33 +1,23 @@
 -- The other calls: listing, digest, privilege, exceptions, reading a log, and the setters. A row is what is asked and what is answered.
-use Rattle.std.specs.Prelude.{ℕ, ◌-◌, ◌^◌, List, [], ◌∷◌, Bool, true, false, get_or}
+use Rattle.std.specs.Prelude.{ℕ, ◌-◌, ◌^◌, List, [], ◌∷◌, Bool, true, false, get_or, Result, Ok, Err}
 use Rattle.access.specs.Exceptions.{info_of, any_of, none_of, set_of, then_set, may_of, info_number, info_vectors, may_number, may_value}
-use Rattle.access.specs.declared.InfoAnswer.{InfoAnswer}
-use Rattle.access.specs.declared.InfoAnswer.TheVariants as info
-use Rattle.access.specs.declared.MayAnswer.{MayAnswer}
-use Rattle.access.specs.declared.MayAnswer.TheVariants as asked
 use Rattle.access.specs.declared.PrivilegeLevel.{PrivilegeLevel}
 use Rattle.access.specs.declared.PrivilegeLevel.TheVariants.{Any, PL0, Special, Reserved}
 use Rattle.registers.specs.Banks as banks
 use Rattle.registers.specs.Files.{file_of, file_answer}
-use Rattle.registers.specs.declared.FileAnswer.{FileAnswer}
 use Rattle.digest.specs.Digests.{with_privilege, with_flags, with_nontrivial, with_complex, operand_answer, list_answer, then, digest_number, digest_in}
 use Rattle.digest.specs.declared.BehaviorDigest.{BehaviorDigest}
-use Rattle.digest.specs.declared.DigestAnswer.{DigestAnswer}
-use Rattle.digest.specs.declared.DigestAnswer.TheVariants as answered
 use Rattle.implicit.specs.Lists.{entry_at}
 use Rattle.implicit.specs.declared.Way.TheVariants.{Read, Write}
 use Rattle.implicit.specs.declared.ImplicitOperand.TheVariants.{Register}
 use Rattle.implicit.specs.declared.Entry.{Entry}
 use Rattle.implicit.specs.declared.Entry.TheVariants.{Operand, Slot, End}
 use Rattle.record.specs.Records.{record_of, record_answer}
-use Rattle.record.specs.declared.RecordAnswer.{RecordAnswer}
 use Rattle.definition.specs.Behaviors.{digest_call, privilege_call, exceptions_call, privilege_number, privilege_in}
 use Rattle.definition.specs.Limits.{most_listed}
 use Rattle.definition.specs.Logs.{bytes_of}
 use Rattle.definition.specs.Visits.{log_of, number_of, opcode_of, count_of}
 use Rattle.definition.specs.Readings.{read_at}
-use Rattle.definition.specs.declared.PrivilegeAnswer.{PrivilegeAnswer}
-use Rattle.definition.specs.declared.PrivilegeAnswer.TheVariants as level
 use Rattle.definition.specs.declared.Answer.{Answer}
 use Rattle.definition.specs.declared.Answer.TheVariants.{Done, Refused, Complex, Short}
 use Rattle.definition.specs.declared.Event.{Event}
@@ -36,6 +26,11 @@ use Rattle.definition.specs.declared.Reading.{Reading}
 use Rattle.definition.specs.declared.Reading.TheVariants.{Found, Bad, Finished}
 use Rattle.promises.specs.Rows.{Patch, record_with, file_knowing, knows, long, opcode, count, specs, regs, size, disp, prefixes, behavior, access, list, W, Nothing, RegRRR, RegMMM, Deref, Disp, Row, row_in, row}
 use Rattle.promises.specs.Fullest.{fullest_fields}
+use Rattle.laws.specs.declared.refusals.Refusal.{Refusal}
+use Rattle.laws.specs.declared.refusals.Refusal.TheVariants.{Malformed, Outside, BadFile}
+use Rattle.registers.specs.declared.RegisterFile.{RegisterFile}
+use Rattle.record.specs.declared.Record.{Record}
+use Rattle.access.specs.declared.ExceptionInfo.{ExceptionInfo}
 
 -- Listing
 unfoldable pub listings : List Row
@@ -76,13 +71,13 @@ listings =
 abbrev pub digest : ℕ → ℕ → ℕ → BehaviorDigest
 digest b o e = record { behavior = b; operands = o; extra = e }
 
-abbrev pub fixed : ℕ → ℕ → ℕ → DigestAnswer
-fixed b o e = answered.Done (digest b o e)
+abbrev pub fixed : ℕ → ℕ → ℕ → Result BehaviorDigest Refusal
+fixed b o e = Ok (digest b o e)
 
-abbrev pub digest_for : List Patch → DigestAnswer
+abbrev pub digest_for : List Patch → Result BehaviorDigest Refusal
 digest_for cs = digest_call (record_with (behavior 0x10 ∷ access 0xFF ∷ list 9 ∷ cs))
 
-unfoldable pub digests : List (List Patch × DigestAnswer)
+unfoldable pub digests : List (List Patch × Result BehaviorDigest Refusal)
 digests =
     -- MUL by the width of regs[1] where spec 0 is RegMMM, else by mem_size; count is not asked
     ((opcode 1 ∷ specs (RegMMM ∷ []) ∷ regs 1 W 0 ∷ size 4 ∷ []), fixed 0x10 0xFF 2)
@@ -138,20 +133,20 @@ digests =
     -- bits 6 and 7 stay; without bit 4 nothing changes
     ∷ ((opcode 13 ∷ count 1 ∷ behavior 0xDF ∷ []), fixed 0xDF 0xFD 9)
     ∷ ((opcode 13 ∷ count 1 ∷ behavior 0xEF ∷ []), fixed 0xEF 0xFF 9)
-    ∷ ((long 41 ∷ []), answered.Refused 1)
-    ∷ ((count 5 ∷ []), answered.Refused 2)
+    ∷ ((long 41 ∷ []), Err Malformed)
+    ∷ ((count 5 ∷ []), Err Outside)
     -- 1 before 2, where both tests refuse
-    ∷ ((count 5 ∷ long 39 ∷ []), answered.Refused 1)
+    ∷ ((count 5 ∷ long 39 ∷ []), Err Malformed)
     ∷ []
 
 -- Exceptions: bit 13, and bit 14
-abbrev pub exceptions_for : List Patch → InfoAnswer
+abbrev pub exceptions_for : List Patch → Result ExceptionInfo Refusal
 exceptions_for cs = exceptions_call (record_with cs)
 
-abbrev pub raises : ℕ → InfoAnswer
-raises v = info.Done (info_of v)
+abbrev pub raises : ℕ → Result ExceptionInfo Refusal
+raises v = Ok (info_of v)
 
-unfoldable pub exceptions : List (List Patch × InfoAnswer)
+unfoldable pub exceptions : List (List Patch × Result ExceptionInfo Refusal)
 exceptions =
     ((specs (RegRRR ∷ []) ∷ []), raises 0)
     ∷ ((behavior 0x01 ∷ []), raises 0x2000)
@@ -170,24 +165,24 @@ exceptions =
     ∷ ((opcode 1 ∷ behavior 0x10 ∷ list 28 ∷ []), raises 0)
     -- both
     ∷ ((behavior 0x01 ∷ list 15 ∷ size 0 ∷ []), raises 0x6000)
-    ∷ ((long 39 ∷ []), info.Refused 1)
-    ∷ ((count 5 ∷ behavior 0x01 ∷ []), info.Refused 2)
-    ∷ ((count 5 ∷ behavior 0x01 ∷ long 39 ∷ []), info.Refused 1)
+    ∷ ((long 39 ∷ []), Err Malformed)
+    ∷ ((count 5 ∷ behavior 0x01 ∷ []), Err Outside)
+    ∷ ((count 5 ∷ behavior 0x01 ∷ long 39 ∷ []), Err Malformed)
     ∷ []
 
 -- Privilege
-abbrev pub privilege_for : List Patch → PrivilegeAnswer
+abbrev pub privilege_for : List Patch → Result PrivilegeLevel Refusal
 privilege_for cs = privilege_call (record_with cs)
 
-unfoldable pub privileges : List (List Patch × PrivilegeAnswer)
+unfoldable pub privileges : List (List Patch × Result PrivilegeLevel Refusal)
 privileges =
-    ((behavior 0xFC ∷ []), level.Done Any)
-    ∷ ((behavior 0xFD ∷ []), level.Done PL0)
-    ∷ ((behavior 0xFE ∷ []), level.Done Special)
-    ∷ ((behavior 0xFF ∷ []), level.Done Reserved)
-    ∷ ((behavior 0x03 ∷ long 39 ∷ []), level.Refused 1)
-    ∷ ((behavior 0x03 ∷ count 5 ∷ []), level.Refused 2)
-    ∷ ((behavior 0x03 ∷ count 5 ∷ long 39 ∷ []), level.Refused 1)
+    ((behavior 0xFC ∷ []), Ok Any)
+    ∷ ((behavior 0xFD ∷ []), Ok PL0)
+    ∷ ((behavior 0xFE ∷ []), Ok Special)
+    ∷ ((behavior 0xFF ∷ []), Ok Reserved)
+    ∷ ((behavior 0x03 ∷ long 39 ∷ []), Err Malformed)
+    ∷ ((behavior 0x03 ∷ count 5 ∷ []), Err Outside)
+    ∷ ((behavior 0x03 ∷ count 5 ∷ long 39 ∷ []), Err Malformed)
     ∷ []
 
 -- Reading a log at a place
@@ -238,55 +233,55 @@ unfoldable pub reading_numbers : List (Reading × ℕ)
 reading_numbers = (Found (UnknownRead 1) 2, 0) ∷ (Bad 1, 1) ∷ (Bad 2, 2) ∷ (Finished, 255) ∷ []
 
 -- the number and the values of each case of the other answers: refused, every other number is 0
-abbrev pub digest_numbers : DigestAnswer → ℕ × BehaviorDigest
+abbrev pub digest_numbers : Result BehaviorDigest Refusal → ℕ × BehaviorDigest
 digest_numbers a = (digest_number a, digest_in a)
 
-unfoldable pub digest_numbers_lem : List (DigestAnswer × (ℕ × BehaviorDigest))
-digest_numbers_lem = (fixed 1 2 3, (0, digest 1 2 3)) ∷ (answered.Refused 2, (2, digest 0 0 0)) ∷ []
+unfoldable pub digest_numbers_lem : List (Result BehaviorDigest Refusal × (ℕ × BehaviorDigest))
+digest_numbers_lem = (fixed 1 2 3, (0, digest 1 2 3)) ∷ (Err Outside, (2, digest 0 0 0)) ∷ []
 
-abbrev pub info_numbers : InfoAnswer → ℕ × ℕ
+abbrev pub info_numbers : Result ExceptionInfo Refusal → ℕ × ℕ
 info_numbers a = (info_number a, info_vectors a)
 
-unfoldable pub info_numbers_lem : List (InfoAnswer × (ℕ × ℕ))
-info_numbers_lem = (info.Done (info_of 5), (0, 5)) ∷ (info.Refused 2, (2, 0)) ∷ []
+unfoldable pub info_numbers_lem : List (Result ExceptionInfo Refusal × (ℕ × ℕ))
+info_numbers_lem = (Ok (info_of 5), (0, 5)) ∷ (Err Outside, (2, 0)) ∷ []
 
-abbrev pub may_numbers : MayAnswer → ℕ × Bool
+abbrev pub may_numbers : Result Bool Refusal → ℕ × Bool
 may_numbers a = (may_number a, may_value a)
 
-unfoldable pub may_numbers_lem : List (MayAnswer × (ℕ × Bool))
-may_numbers_lem = (asked.Done true, (0, true)) ∷ (asked.Done false, (0, false)) ∷ (asked.Refused 2, (2, false)) ∷ []
+unfoldable pub may_numbers_lem : List (Result Bool Refusal × (ℕ × Bool))
+may_numbers_lem = (Ok true, (0, true)) ∷ (Ok false, (0, false)) ∷ (Err Outside, (2, false)) ∷ []
 
-abbrev pub privilege_numbers : PrivilegeAnswer → ℕ × PrivilegeLevel
+abbrev pub privilege_numbers : Result PrivilegeLevel Refusal → ℕ × PrivilegeLevel
 privilege_numbers a = (privilege_number a, privilege_in a)
 
-unfoldable pub privilege_numbers_lem : List (PrivilegeAnswer × (ℕ × PrivilegeLevel))
-privilege_numbers_lem = (level.Done PL0, (0, PL0)) ∷ (level.Refused 1, (1, Any)) ∷ []
+unfoldable pub privilege_numbers_lem : List (Result PrivilegeLevel Refusal × (ℕ × PrivilegeLevel))
+privilege_numbers_lem = (Ok PL0, (0, PL0)) ∷ (Err Malformed, (1, Any)) ∷ []
 
 unfoldable pub level_numbers : List (PrivilegeLevel × ℕ)
 level_numbers = (Any, 0) ∷ (PL0, 1) ∷ (Special, 2) ∷ (Reserved, 3) ∷ []
 
 -- What the parts of a call answer: a register file and a record from bytes, an entry of a list. Refused, every other number is 0.
-abbrev pub file_for : List Patch → FileAnswer
+abbrev pub file_for : List Patch → Result RegisterFile Refusal
 file_for cs = file_answer (file_knowing cs)
 
-abbrev pub file : ℕ → List ℕ → ℕ → FileAnswer
-file n vs k = record { number = n; file = record { values = vs; known = k } }
+abbrev pub file : List ℕ → ℕ → Result RegisterFile Refusal
+file vs k = Ok (record { values = vs; known = k })
 
-unfoldable pub files : List (List Patch × FileAnswer)
+unfoldable pub files : List (List Patch × Result RegisterFile Refusal)
 files =
-    ((knows 0 5 ∷ knows 16 6 ∷ []), file 0 (5 ∷ 0 ∷ 0 ∷ 0 ∷ 0 ∷ 0 ∷ 0 ∷ 0 ∷ 0 ∷ 0 ∷ 0 ∷ 0 ∷ 0 ∷ 0 ∷ 0 ∷ 0 ∷ 6 ∷ 0 ∷ 0 ∷ []) 0x10001)
-    ∷ ((knows 0 5 ∷ long 140 ∷ []), file 3 (0 ∷ 0 ∷ 0 ∷ 0 ∷ 0 ∷ 0 ∷ 0 ∷ 0 ∷ 0 ∷ 0 ∷ 0 ∷ 0 ∷ 0 ∷ 0 ∷ 0 ∷ 0 ∷ 0 ∷ 0 ∷ 0 ∷ []) 0)
+    ((knows 0 5 ∷ knows 16 6 ∷ []), file (5 ∷ 0 ∷ 0 ∷ 0 ∷ 0 ∷ 0 ∷ 0 ∷ 0 ∷ 0 ∷ 0 ∷ 0 ∷ 0 ∷ 0 ∷ 0 ∷ 0 ∷ 0 ∷ 6 ∷ 0 ∷ 0 ∷ []) 0x10001)
+    ∷ ((knows 0 5 ∷ long 140 ∷ []), Err BadFile)
     ∷ []
 
-abbrev pub record_for : List Patch → RecordAnswer
+abbrev pub record_for : List Patch → Result Record Refusal
 record_for cs = record_answer (record_with cs)
 
-unfoldable pub records : List (List Patch × RecordAnswer)
+unfoldable pub records : List (List Patch × Result Record Refusal)
 records =
-    ((opcode 0x1234 ∷ []), record { number = 0; read = record_of (record_with (opcode 0x1234 ∷ [])) })
-    ∷ ((long 39 ∷ []), record { number = 1; read = record_of [] })
-    ∷ ((count 5 ∷ []), record { number = 2; read = record_of [] })
-    ∷ ((count 5 ∷ long 39 ∷ []), record { number = 1; read = record_of [] })
+    ((opcode 0x1234 ∷ []), Ok (record_of (record_with (opcode 0x1234 ∷ []))))
+    ∷ ((long 39 ∷ []), Err Malformed)
+    ∷ ((count 5 ∷ []), Err Outside)
+    ∷ ((count 5 ∷ long 39 ∷ []), Err Malformed)
     ∷ []
 
 abbrev pub entry_for : ℕ × ℕ → Entry
@@ -302,38 +297,38 @@ entries =
     ∷ []
 
 -- Setters: a vector above 31, an operand above 3 and a list above 28 are refused 2
-abbrev pub vectors : (ℕ × ℕ) × Bool → InfoAnswer
+abbrev pub vectors : (ℕ × ℕ) × Bool → Result ExceptionInfo Refusal
 vectors a = set_of (info_of a.0.0) a.0.1 a.1
 
-unfoldable pub vector_rows : List (((ℕ × ℕ) × Bool) × InfoAnswer)
+unfoldable pub vector_rows : List (((ℕ × ℕ) × Bool) × Result ExceptionInfo Refusal)
 vector_rows =
     (((0, 0), true), raises 1)
     ∷ (((0x4000, 31), true), raises 0x80004000)
     ∷ (((0xFFFFFFFF, 13), false), raises 0xFFFFDFFF)
     ∷ (((0x2000, 13), true), raises 0x2000)
-    ∷ (((0xFFFFFFFF, 32), true), info.Refused 2)
+    ∷ (((0xFFFFFFFF, 32), true), Err Outside)
     ∷ []
 
 -- a vector set after another: the first refusal stands
-abbrev pub vectors_after : InfoAnswer × ℕ → InfoAnswer
+abbrev pub vectors_after : Result ExceptionInfo Refusal × ℕ → Result ExceptionInfo Refusal
 vectors_after a = then_set a.0 a.1 true
 
-unfoldable pub chain_rows : List ((InfoAnswer × ℕ) × InfoAnswer)
+unfoldable pub chain_rows : List ((Result ExceptionInfo Refusal × ℕ) × Result ExceptionInfo Refusal)
 chain_rows =
     ((raises 0x2000, 14), raises 0x6000)
-    ∷ ((info.Refused 2, 14), info.Refused 2)
-    ∷ ((raises 0x2000, 32), info.Refused 2)
+    ∷ ((Err Outside, 14), Err Outside)
+    ∷ ((raises 0x2000, 32), Err Outside)
     ∷ []
 
-abbrev pub may : ℕ × ℕ → MayAnswer
+abbrev pub may : ℕ × ℕ → Result Bool Refusal
 may a = may_of (info_of a.0) a.1
 
-unfoldable pub may_rows : List ((ℕ × ℕ) × MayAnswer)
+unfoldable pub may_rows : List ((ℕ × ℕ) × Result Bool Refusal)
 may_rows =
-    ((0x80002000, 13), asked.Done true)
-    ∷ ((0x80002000, 14), asked.Done false)
-    ∷ ((0x80002000, 31), asked.Done true)
-    ∷ ((0xFFFFFFFF, 32), asked.Refused 2)
+    ((0x80002000, 13), Ok true)
+    ∷ ((0x80002000, 14), Ok false)
+    ∷ ((0x80002000, 31), Ok true)
+    ∷ ((0xFFFFFFFF, 32), Err Outside)
     ∷ []
 
 abbrev pub any_none : ℕ → Bool × Bool
@@ -342,13 +337,13 @@ any_none v = (any_of (info_of v), none_of (info_of v))
 unfoldable pub any_rows : List (ℕ × (Bool × Bool))
 any_rows = (0, (false, true)) ∷ (0x2000, (true, false)) ∷ []
 
-abbrev pub setter : (BehaviorDigest → DigestAnswer) → DigestAnswer
+abbrev pub setter : (BehaviorDigest → Result BehaviorDigest Refusal) → Result BehaviorDigest Refusal
 setter f = f (digest 0xA5 0x5A 9)
 
-abbrev pub as_answer : (BehaviorDigest → BehaviorDigest) → BehaviorDigest → DigestAnswer
-as_answer f d = answered.Done (f d)
+abbrev pub as_answer : (BehaviorDigest → BehaviorDigest) → BehaviorDigest → Result BehaviorDigest Refusal
+as_answer f d = Ok (f d)
 
-unfoldable pub setter_rows : List ((BehaviorDigest → DigestAnswer) × DigestAnswer)
+unfoldable pub setter_rows : List ((BehaviorDigest → Result BehaviorDigest Refusal) × Result BehaviorDigest Refusal)
 setter_rows =
     (as_answer (with_privilege 2), fixed 0xA6 0x5A 9)
     ∷ (as_answer (with_flags 2), fixed 0xA9 0x5A 9)
@@ -357,10 +352,10 @@ setter_rows =
     ∷ (as_answer (with_complex false), fixed 0x85 0x5A 9)
     ∷ (operand_answer 0 1, fixed 0xA5 0x59 9)
     ∷ (operand_answer 3 3, fixed 0xA5 0xDA 9)
-    ∷ (operand_answer 4 0, answered.Refused 2)
+    ∷ (operand_answer 4 0, Err Outside)
     ∷ (list_answer 28, fixed 0xA5 0x5A 28)
-    ∷ (list_answer 29, answered.Refused 2)
+    ∷ (list_answer 29, Err Outside)
     -- in a chain the first refusal stands
     ∷ ((λ d. then (operand_answer 0 1 d) (list_answer 28)), fixed 0xA5 0x59 28)
-    ∷ ((λ d. then (operand_answer 4 1 d) (list_answer 28)), answered.Refused 2)
+    ∷ ((λ d. then (operand_answer 4 1 d) (list_answer 28)), Err Outside)
     ∷ []

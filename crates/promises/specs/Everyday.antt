@@ -1,21 +1,19 @@
 -- What T-11 says of records that have no digest: what they answer like, when they are refused, and row by row.
-use Rattle.std.specs.Prelude.{ℕ, ◌≡◌, List, [], ◌∷◌, ◌++◌, true, false, get_or}
+use Rattle.std.specs.Prelude.{ℕ, ◌≡◌, List, [], ◌∷◌, ◌++◌, true, false, get_or, Result, Ok, Err}
 use Rattle.laws.specs.Words.{number_at, little}
-use Rattle.access.specs.declared.InfoAnswer.{InfoAnswer}
-use Rattle.access.specs.declared.InfoAnswer.TheVariants as info
 use Rattle.access.specs.declared.PrivilegeLevel.TheVariants.{Any}
 use Rattle.digest.specs.Digests.{digest_in}
 use Rattle.digest.specs.declared.BehaviorDigest.{BehaviorDigest}
-use Rattle.digest.specs.declared.DigestAnswer.{DigestAnswer}
-use Rattle.digest.specs.declared.DigestAnswer.TheVariants as answered
 use Rattle.everyday.specs.Rows.{everyday_digest, is_everyday}
 use Rattle.record.specs.Records.{record_kind, everyday_kind, is_record, record_of, outside}
 use Rattle.definition.specs.Behaviors.{digest_call}
 use Rattle.definition.specs.declared.Answer.TheVariants.{Done, Refused, Short}
-use Rattle.definition.specs.declared.PrivilegeAnswer.{PrivilegeAnswer}
-use Rattle.definition.specs.declared.PrivilegeAnswer.TheVariants as level
 use Rattle.promises.specs.Rows.{Patch, record_with, put, long, segment, everyday, opcode, count, specs, regs, size, prefixes, knows, Q, D, RFLAGS, Nothing, RegRRR, RegMMM, Deref, log, reads, writes, loads, stores, Row, row_in, row}
 use Rattle.promises.specs.Answers.{fixed, raises}
+use Rattle.laws.specs.declared.refusals.Refusal.{Refusal}
+use Rattle.laws.specs.declared.refusals.Refusal.TheVariants as refusals
+use Rattle.access.specs.declared.ExceptionInfo.{ExceptionInfo}
+use Rattle.access.specs.declared.PrivilegeLevel.{PrivilegeLevel}
 
 -- the opcode in the bytes behind the kind
 abbrev pub opcode_in : List ℕ → ℕ
@@ -36,13 +34,13 @@ pub record Unlisted (b : List ℕ) : Type 0 where
   pub absent : is_everyday (number_at b 1 2) ≡ false
 
 -- Every opcode of the table, after fix-ups, and those beside them
-abbrev pub digest_at : ℕ → DigestAnswer
+abbrev pub digest_at : ℕ → Result BehaviorDigest Refusal
 digest_at o = digest_call (record_with (opcode o ∷ everyday ∷ []))
 
-abbrev refused : DigestAnswer
-refused = answered.Refused 9
+abbrev refused : Result BehaviorDigest Refusal
+refused = Err refusals.Unlisted
 
-unfoldable pub every_digest : List (ℕ × DigestAnswer)
+unfoldable pub every_digest : List (ℕ × Result BehaviorDigest Refusal)
 every_digest =
     (0, refused)
     -- MUL: nontrivial, so the list comes from the width
@@ -175,20 +173,20 @@ everyday_listings =
     ∷ []
 
 -- Exceptions and privilege: 1, 2, 9
-unfoldable pub everyday_exceptions : List (List Patch × InfoAnswer)
+unfoldable pub everyday_exceptions : List (List Patch × Result ExceptionInfo Refusal)
 everyday_exceptions =
     (two 100 RegMMM, raises 0)
     ∷ (two 100 Deref, raises 0x4000)
     ∷ ((opcode 117 ∷ specs (RegRRR ∷ []) ∷ everyday ∷ []), raises 0x4000)
-    ∷ ((opcode 119 ∷ everyday ∷ long 35 ∷ []), info.Refused 1)
-    ∷ ((opcode 119 ∷ count 5 ∷ everyday ∷ []), info.Refused 2)
-    ∷ ((opcode 119 ∷ everyday ∷ []), info.Refused 9)
+    ∷ ((opcode 119 ∷ everyday ∷ long 35 ∷ []), Err refusals.Malformed)
+    ∷ ((opcode 119 ∷ count 5 ∷ everyday ∷ []), Err refusals.Outside)
+    ∷ ((opcode 119 ∷ everyday ∷ []), Err refusals.Unlisted)
     ∷ []
 
-unfoldable pub everyday_privileges : List (List Patch × PrivilegeAnswer)
+unfoldable pub everyday_privileges : List (List Patch × Result PrivilegeLevel Refusal)
 everyday_privileges =
-    ((opcode 118 ∷ everyday ∷ []), level.Done Any)
-    ∷ ((opcode 119 ∷ everyday ∷ long 35 ∷ []), level.Refused 1)
-    ∷ ((opcode 119 ∷ count 5 ∷ everyday ∷ []), level.Refused 2)
-    ∷ ((opcode 119 ∷ everyday ∷ []), level.Refused 9)
+    ((opcode 118 ∷ everyday ∷ []), Ok Any)
+    ∷ ((opcode 119 ∷ everyday ∷ long 35 ∷ []), Err refusals.Malformed)
+    ∷ ((opcode 119 ∷ count 5 ∷ everyday ∷ []), Err refusals.Outside)
+    ∷ ((opcode 119 ∷ everyday ∷ []), Err refusals.Unlisted)
     ∷ []

@@ -1,19 +1,17 @@
 -- WHAT IS PROMISED of the definitions, each statement after its sentence. proofs/Proved.antt proves them all; nothing is assumed.
 -- The words that the statements use stand in Refinement.antt (files and events), Calls.antt (calls) and Rows.antt (tables).
-use Rattle.std.specs.Prelude.{ℕ, ◌+◌, ◌-◌, ◌≤◌, ◌≡◌, ◌↔◌, Bool, true, not, length, take, drop, set, Some, None}
+use Rattle.std.specs.Prelude.{ℕ, ◌+◌, ◌-◌, ◌≤◌, ◌≡◌, ◌↔◌, Bool, true, not, length, take, drop, set, Some, None, Result}
 use mathlib.Core.List.{List, [], ◌∷◌, ◌++◌, Memᴰ}
 use Rattle.laws.specs.Lending.{splice}
 use Rattle.laws.specs.Outcomes.{OneOutcome}
 use Rattle.access.specs.Exceptions.{set_of, then_set, may_of, info_number}
 use Rattle.access.specs.Privileges.{level_number}
 use Rattle.access.specs.declared.ExceptionInfo.{ExceptionInfo}
-use Rattle.access.specs.declared.InfoAnswer.{InfoAnswer}
 use Rattle.registers.specs.Files.{file_kind, based_kind, file_bytes, based_bytes, file_of, file_answer, is_file, slot_of, after, value_of}
 use Rattle.registers.specs.declared.RegSpec.{RegSpec}
 use Rattle.registers.specs.declared.RegisterFile.{RegisterFile}
 use Rattle.digest.specs.Digests.{with_privilege, with_flags, with_nontrivial, with_complex, operand_answer, list_answer, then, digest_number}
 use Rattle.digest.specs.declared.BehaviorDigest.{BehaviorDigest}
-use Rattle.digest.specs.declared.DigestAnswer.{DigestAnswer}
 use Rattle.implicit.specs.Lists.{entry_at}
 use Rattle.everyday.specs.Rows.{unlisted, is_everyday}
 use Rattle.record.specs.Records.{record_kind, segment_kind, everyday_kind, everyday_bytes, record_bytes, record_answer, address_size}
@@ -43,6 +41,7 @@ use Rattle.promises.specs.Sweeps.{every_list, every_spec_read, every_spec_writte
 use Rattle.promises.specs.Fullest.{fullest, fullest_file}
 use Rattle.promises.specs.Segments.{segments, refused_kinds, base_readings, bases_in, base_files}
 use Rattle.promises.specs.Everyday.{opcode_in, filled_in, Unlisted, digest_at, every_digest, everyday_logs, everyday_refusals, everyday_listings, everyday_exceptions, everyday_privileges}
+use Rattle.laws.specs.declared.refusals.Refusal.{Refusal as Why}
 
 -- DEMAND 3, FIRST HALF. Under a file that knows more, with room for the longest log on both sides, a visit is refused as before, number
 -- and opcode, and leaves the buffer; or it logs the same events in the same order, but for unknown addresses that are filled in.
@@ -189,7 +188,7 @@ EveryReadingDetermined =
 -- and the setters, alone and in a chain
 abbrev pub EverySetterDetermined : Type 0
 EverySetterDetermined =
-    (d : BehaviorDigest) (v : ExceptionInfo) (a : DigestAnswer) (w : InfoAnswer) (i n : ℕ) (t : Bool)
+    (d : BehaviorDigest) (v : ExceptionInfo) (a : Result BehaviorDigest Why) (w : Result ExceptionInfo Why) (i n : ℕ) (t : Bool)
     → OneOutcome (with_privilege n d)
     × OneOutcome (with_flags n d)
     × OneOutcome (with_nontrivial t d)

@@ -1,7 +1,6 @@
 -- What T-10 says, row by row: records that name a segment, files that hold the bases of fs and gs, and bank 13 in a log.
-use Rattle.std.specs.Prelude.{ℕ, ◌-◌, ◌^◌, List, [], ◌∷◌, get_or}
+use Rattle.std.specs.Prelude.{ℕ, ◌-◌, ◌^◌, List, [], ◌∷◌, get_or, Result, Ok, Err}
 use Rattle.registers.specs.Files.{file_of, file_answer}
-use Rattle.registers.specs.declared.FileAnswer.{FileAnswer}
 use Rattle.definition.specs.Logs.{bytes_of}
 use Rattle.definition.specs.Visits.{log_of}
 use Rattle.definition.specs.declared.Event.{Event}
@@ -11,6 +10,9 @@ use Rattle.definition.specs.declared.Reading.{Reading}
 use Rattle.definition.specs.declared.Reading.TheVariants.{Found, Bad}
 use Rattle.registers.specs.Banks as banks
 use Rattle.promises.specs.Rows.{Patch, put, long, record_with, segment, opcode, specs, regs, disp, imm, scale, prefixes, mask, behavior, access, list, file_knowing, based, knows, Q, D, K, BASES, RegRRR, Reg4, Deref, Deref_rdi, Deref_rsi, Deref_edi, Deref_esi, Disp, MemBaseIndexScale_mask, DispU64, ImmI8, log, reads, writes, loads, stores, loads_unknown, stores_unknown, Row, row}
+use Rattle.laws.specs.declared.refusals.Refusal.{Refusal}
+use Rattle.laws.specs.declared.refusals.Refusal.TheVariants.{BadFile}
+use Rattle.registers.specs.declared.RegisterFile.{RegisterFile}
 
 -- rbx is 0x1000, rsi 0x2000 and rdi 0x3000; fs is 0x70000 and gs 0x80000
 abbrev plain_file : List Patch
@@ -113,15 +115,15 @@ base_readings =
     ∷ []
 
 -- A file that holds bases, and one that does not: two values more, and unknown
-abbrev pub bases_in : List Patch → FileAnswer
+abbrev pub bases_in : List Patch → Result RegisterFile Refusal
 bases_in cs = file_answer (file_knowing cs)
 
 abbrev nineteen : ℕ → ℕ → ℕ → List ℕ
 nineteen a b c = a ∷ 0 ∷ 0 ∷ 0 ∷ 0 ∷ 0 ∷ 0 ∷ 0 ∷ 0 ∷ 0 ∷ 0 ∷ 0 ∷ 0 ∷ 0 ∷ 0 ∷ 0 ∷ 0 ∷ b ∷ c ∷ []
 
-unfoldable pub base_files : List (List Patch × FileAnswer)
+unfoldable pub base_files : List (List Patch × Result RegisterFile Refusal)
 base_files =
-    ((knows 0 5 ∷ based ∷ knows 17 6 ∷ knows 18 7 ∷ []), record { number = 0; file = record { values = nineteen 5 6 7; known = 0x60001 } })
-    ∷ ((knows 0 5 ∷ []), record { number = 0; file = record { values = nineteen 5 0 0; known = 1 } })
-    ∷ ((knows 0 5 ∷ put 3 (2 ∷ []) ∷ []), record { number = 3; file = record { values = nineteen 0 0 0; known = 0 } })
+    ((knows 0 5 ∷ based ∷ knows 17 6 ∷ knows 18 7 ∷ []), Ok (record { values = nineteen 5 6 7; known = 0x60001 }))
+    ∷ ((knows 0 5 ∷ []), Ok (record { values = nineteen 5 0 0; known = 1 }))
+    ∷ ((knows 0 5 ∷ put 3 (2 ∷ []) ∷ []), Err BadFile)
     ∷ []

@@ -203,16 +203,19 @@ passed b e =
     let t = first_zero (record_tests b) (lit≤ tt, (lit≤ tt, (lit≤ tt, tt))) e in
     record { is = not-false (is_record b) t.0; in_tables = t.1.0; digested = t.1.1.0 }
 
--- the answer's number is the refusal
-pub answer_number : (b : List ℕ) → refused_by (record_answer b) ≡ record_refusal b
+-- the number of what is answered by the refusal is the refusal
+pub refused_number : {A : Type 0} (b : List ℕ) (x : A) → refused_by (answered_by (record_refusal b) x) ≡ record_refusal b
 unfolding record_refusal first_of
-answer_number b = by (not (is_record b)) (outside (record_of b)) (lacks_digest b)
+refused_number b x = by (not (is_record b)) (outside (record_of b)) (lacks_digest b)
   where
-    by : (t u v : Bool) → refused_by (answered_by (cond t 1 (cond u 2 (cond v unlisted 0))) (record_of b)) ≡ cond t 1 (cond u 2 (cond v unlisted 0))
+    by : (t u v : Bool) → refused_by (answered_by (cond t 1 (cond u 2 (cond v unlisted 0))) x) ≡ cond t 1 (cond u 2 (cond v unlisted 0))
     by true u v = refl
     by false true v = refl
     by false false true = refl
     by false false false = refl
+
+pub answer_number : (b : List ℕ) → refused_by (record_answer b) ≡ record_refusal b
+answer_number b = refused_number b (record_of b)
 
 -- and where it is 0 the record is answered
 pub answer_read : (b : List ℕ) → record_refusal b ≡ 0 → record_answer b ≡ Ok (record_of b)
