@@ -11,3 +11,8 @@ halves a b =
     ap (λ (x : ℕ). x * b) (sym (div-add-mod' a 4294967296)) ∙ add-mul (a / 4294967296 * 4294967296) (a % 4294967296) b
     ∙ ap (λ (x : ℕ). x + a % 4294967296 * b)
     (mul_assoc (a / 4294967296) 4294967296 b ∙ ap (λ (x : ℕ). a / 4294967296 * x) (mul_comm 4294967296 b) ∙ sym (mul_assoc (a / 4294967296) b 4294967296))
+
+-- as the code computes it, whose sum wraps
+pub times_halves :
+    (a k : ℕ) → (a % 4294967296 * k + a / 4294967296 * k % 4294967296 * 4294967296) % 18446744073709551616 ≡ a * k % 18446744073709551616
+times_halves a k = omega (arith, halves a k)

@@ -24,6 +24,7 @@ pub struct Sources {
 const MINUS_8: u64 = 0xFFFF_FFFF_FFFF_FFF8;
 
 // Where the memory of an implicit list lies: unknown for one that has none.
+#[tactic(auto, using(crate::proofs::NoPlace::no_place))]
 fn implied_place(f: RegisterFile, list: u16) -> Value
     ensures { result ≡ implied_place f list }
 {
@@ -38,6 +39,7 @@ fn implied_place(f: RegisterFile, list: u16) -> Value
 }
 
 // The base of a segment: that of gs where the segment is not fs.
+#[tactic(auto, unfolding(definition::specs::Addresses::segment_register))]
 fn segment_base(f: RegisterFile, segment: u8) -> Value
     ensures { result ≡ value_of f (segment_register segment) }
 {
@@ -49,15 +51,14 @@ fn segment_base(f: RegisterFile, segment: u8) -> Value
 }
 
 // The record is one after fix-ups.
+#[tactic(auto, unfolding(crate::specs::Places::sources_of))]
 pub fn resolve(f: RegisterFile, x: Record) -> Sources
     ensures { result ≡ sources_of f x }
 {
     let two = f.two_values(x.regs[1], x.regs[2]);
-    let base = two.base;
-    let index = two.index;
     Sources {
-        base: base,
-        index: scaled(index, x.scale),
+        base: two.base,
+        index: scaled(two.index, x.scale),
         rdi: f.general(RDI.number),
         rsi: f.general(RSI.number),
         implied: implied_place(f, x.digest.extra),

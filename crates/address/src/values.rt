@@ -10,39 +10,27 @@ use registers::Value;
 pub fn plus(v: Value, offset: u64) -> Value
     ensures { result ≡ plus_of v offset }
 {
-    match v {
-        Some(a) => Some(std::num::wrapping_add_u64(a, offset)),
-        None => None,
-    }
+    v.map(|a| a.wrapping_add(offset))
 }
 
 pub fn sum(u: Value, v: Value) -> Value
     ensures { result ≡ sum_of u v }
 {
-    match u {
-        Some(a) => plus(v, a),
-        None => None,
-    }
+    plus(v, u?)
 }
 
 // The low 32 bits.
 pub fn low(v: Value) -> Value
     ensures { result ≡ low_of v }
 {
-    match v {
-        Some(a) => Some(a % 0x1_0000_0000),
-        None => None,
-    }
+    v.map(|a| a % 0x1_0000_0000)
 }
 
 // Unknown stays unknown, also times 0.
 pub fn scaled(v: Value, scale: u8) -> Value
     ensures { result ≡ scaled_of v scale }
 {
-    match v {
-        Some(a) => Some(times(a, scale)),
-        None => None,
-    }
+    v.map(|a| times(a, scale))
 }
 
 // The address of an explicit operand, from its whole sum: cut where the record has the address-size bit.
@@ -51,8 +39,5 @@ pub fn cut(b: &[u8], v: Value) -> Value
     ensures { result ≡ cut_of (record_of b.now) v }
 {
     let short = record::address_size_in(b);
-    match v {
-        Some(a) => Some(low_if(short, a)),
-        None => None,
-    }
+    v.map(|a| low_if(short, a))
 }
