@@ -7,6 +7,7 @@ pub mod Span
 pub mod Choice
 pub mod Numbers
 pub mod Bits
+pub mod Bytes
 pub mod Keys
 pub mod Outcomes
 pub mod Answered
