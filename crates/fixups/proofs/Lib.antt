@@ -2,4 +2,4 @@ pub mod Opcodes
 pub mod Answers
 pub mod Narrow
 pub mod Complex
-pub mod Insertq
+pub mod Faults

@@ -22,15 +22,9 @@ fn names_memory(x: Record) -> bool
 }
 
 // Complex, or some implicit or explicit operand is memory, whatever its access.
+#[tactic(auto, using(crate::proofs::Faults::fault_complex, crate::proofs::Faults::fault_listed, crate::proofs::Faults::fault_named))]
 pub fn may_fault(x: Record) -> bool
     ensures { result ≡ may_fault x }
 {
-    if crate::is_complex(x) {
-        return true;
-    }
-    let d = x.digest;
-    if implicit::lists_memory(d.extra) {
-        return true;
-    }
-    names_memory(x)
+    crate::is_complex(x) || implicit::lists_memory(x.digest.extra) || names_memory(x)
 }

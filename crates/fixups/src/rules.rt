@@ -1,9 +1,8 @@
-// The fix-ups: what an opcode, its operand count and its prefixes change in the digest. One function for each rule.
+// The fix-ups: what an opcode, its operand count and its prefixes change in the digest.
 ghost use Rattle.std.specs.Prelude.{◌≡◌, cond, ◌≤◌};
 ghost use Rattle.access.specs.Accesses.{access_number};
 ghost use Rattle.digest.specs.Digests.{with_access, with_list};
-ghost use Rattle.definition.specs.Tables.{rule_of, mul, imul, div, nop, cmpxchg, movhalf, extrq, insertq, return};
-ghost use Rattle.definition.specs.Tables.{mulx, maskmov, pcmpestri, pcmpestrm, loop};
+ghost use Rattle.definition.specs.Tables.{rule_of, imul, nop, movhalf, extrq, insertq, return};
 ghost use Rattle.definition.specs.Behaviors.{operand_width, by_width, fix_up};
 ghost use Rattle.fixups.specs.Fields.{fields_of};
 
@@ -54,6 +53,7 @@ fn with_access(d: BehaviorDigest, operand: u8, access: Access) -> BehaviorDigest
     changed
 }
 
+#[tactic(auto, unfolding(definition::specs::Behaviors::operand_width))]
 fn operand_width(x: Record) -> u8
     ensures { result ≡ operand_width x }
 {
@@ -64,6 +64,7 @@ fn operand_width(x: Record) -> u8
     }
 }
 
+#[tactic(auto, unfolding(definition::specs::Behaviors::by_width))]
 fn by_width(x: Record, first: u16) -> BehaviorDigest
     requires { first ≤ 9 }
     ensures { result ≡ by_width first (operand_width x) x.digest }
@@ -77,12 +78,7 @@ fn by_width(x: Record, first: u16) -> BehaviorDigest
     }
 }
 
-fn fix_mul(x: Record) -> BehaviorDigest
-    ensures { result ≡ fix_up mul x x.digest }
-{
-    by_width(x, MUL_LISTS)
-}
-
+#[tactic(auto, unfolding(definition::specs::Behaviors::fix_up, definition::specs::Behaviors::imul_fix))]
 fn fix_imul(x: Record) -> BehaviorDigest
     ensures { result ≡ fix_up imul x x.digest }
 {
@@ -103,12 +99,7 @@ fn fix_imul(x: Record) -> BehaviorDigest
     }
 }
 
-fn fix_div(x: Record) -> BehaviorDigest
-    ensures { result ≡ fix_up div x x.digest }
-{
-    by_width(x, DIV_LISTS)
-}
-
+#[tactic(auto, unfolding(definition::specs::Behaviors::fix_up))]
 fn fix_nop(x: Record) -> BehaviorDigest
     ensures { result ≡ fix_up nop x x.digest }
 {
@@ -120,12 +111,7 @@ fn fix_nop(x: Record) -> BehaviorDigest
     }
 }
 
-fn fix_cmpxchg(x: Record) -> BehaviorDigest
-    ensures { result ≡ fix_up cmpxchg x x.digest }
-{
-    by_width(x, CMPXCHG_LISTS)
-}
-
+#[tactic(auto, unfolding(definition::specs::Behaviors::fix_up, definition::specs::Behaviors::movhalf_fix))]
 fn fix_movhalf(x: Record) -> BehaviorDigest
     ensures { result ≡ fix_up movhalf x x.digest }
 {
@@ -138,6 +124,7 @@ fn fix_movhalf(x: Record) -> BehaviorDigest
     }
 }
 
+#[tactic(auto, unfolding(definition::specs::Behaviors::fix_up))]
 fn fix_extrq(x: Record) -> BehaviorDigest
     ensures { result ≡ fix_up extrq x x.digest }
 {
@@ -149,7 +136,7 @@ fn fix_extrq(x: Record) -> BehaviorDigest
     }
 }
 
-#[tactic(auto, using(crate::proofs::Insertq::insertq_reads, crate::proofs::Insertq::insertq_stays))]
+#[tactic(auto, unfolding(definition::specs::Behaviors::fix_up))]
 fn fix_insertq(x: Record) -> BehaviorDigest
     ensures { result ≡ fix_up insertq x x.digest }
 {
@@ -163,6 +150,7 @@ fn fix_insertq(x: Record) -> BehaviorDigest
     }
 }
 
+#[tactic(auto, unfolding(definition::specs::Behaviors::fix_up))]
 fn fix_return(x: Record) -> BehaviorDigest
     ensures { result ≡ fix_up return x x.digest }
 {
@@ -174,66 +162,37 @@ fn fix_return(x: Record) -> BehaviorDigest
     }
 }
 
-fn fix_mulx(x: Record) -> BehaviorDigest
-    ensures { result ≡ fix_up mulx x x.digest }
-{
-    one_list_of(x.digest, x.vex_w(), 14, 13)
-}
-
-fn fix_maskmov(x: Record) -> BehaviorDigest
-    ensures { result ≡ fix_up maskmov x x.digest }
-{
-    one_list_of(x.digest, x.address_size(), 15, 16)
-}
-
-fn fix_pcmpestri(x: Record) -> BehaviorDigest
-    ensures { result ≡ fix_up pcmpestri x x.digest }
-{
-    one_list_of(x.digest, x.vex_w(), 18, 17)
-}
-
-fn fix_pcmpestrm(x: Record) -> BehaviorDigest
-    ensures { result ≡ fix_up pcmpestrm x x.digest }
-{
-    one_list_of(x.digest, x.vex_w(), 20, 19)
-}
-
-fn fix_loop(x: Record) -> BehaviorDigest
-    ensures { result ≡ fix_up loop x x.digest }
-{
-    one_list_of(x.digest, x.address_size(), 23, 21)
-}
-
 // The rule of the opcode, on the base digest.
+#[tactic(auto, using(crate::proofs::Opcodes::unruled_below, crate::proofs::Opcodes::unruled_past))]
 pub fn fix_up(x: Record) -> BehaviorDigest
     ensures { result ≡ fix_up (rule_of x.opcode) x x.digest }
 {
-    let opcode = x.opcode;
-    match opcode {
+    match x.opcode {
         // MUL, IMUL, DIV and IDIV, NOP, CMPXCHG
-        1 => fix_mul(x),
+        1 => by_width(x, MUL_LISTS),
         2 => fix_imul(x),
-        3 | 4 => fix_div(x),
+        3 | 4 => by_width(x, DIV_LISTS),
         5 => fix_nop(x),
-        6 => fix_cmpxchg(x),
+        6 => by_width(x, CMPXCHG_LISTS),
         // VMOVLPS, VMOVHPS, VMOVLPD, VMOVHPD
         7..=10 => fix_movhalf(x),
         // EXTRQ, INSERTQ, RETURN and RETF, MULX, VMASKMOVDQU
         11 => fix_extrq(x),
         12 => fix_insertq(x),
         13 | 14 => fix_return(x),
-        15 => fix_mulx(x),
-        16 => fix_maskmov(x),
+        15 => one_list_of(x.digest, x.vex_w(), 14, 13),
+        16 => one_list_of(x.digest, x.address_size(), 15, 16),
         // PCMPESTRI and PCMPESTRM, each with its VEX form
-        17 | 18 => fix_pcmpestri(x),
-        19 | 20 => fix_pcmpestrm(x),
+        17 | 18 => one_list_of(x.digest, x.vex_w(), 18, 17),
+        19 | 20 => one_list_of(x.digest, x.vex_w(), 20, 19),
         // LOOPNZ, LOOPZ, LOOP
-        21..=23 => fix_loop(x),
+        21..=23 => one_list_of(x.digest, x.address_size(), 23, 21),
         _ => x.digest,
     }
 }
 
 // The same by the fields that the rules look at: a record by value would go through memory at the call.
+#[tactic(auto, unfolding(crate::specs::Fields::fields_of))]
 pub fn fix_fields(
     opcode: u16,
     count: u8,

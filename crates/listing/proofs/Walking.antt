@@ -1,4 +1,5 @@
 -- A step of the walk takes the first of the items that are left, and leaves the others. Assumes nothing.
+use Rattle.std.specs.Prelude.{None, Some}
 use Prim.Native.Nat.{ℕ, zero, suc, ◌+◌, ◌-◌, ◌≤◌, ◌<◌}
 use native.Mathlib.Omega.{arith}
 use borrow.Author.Tests.{ne_eqb, eq-eqb}
@@ -13,20 +14,21 @@ use Rattle.laws.specs.Lists.{each, flat}
 use Rattle.laws.proofs.Choice.{either}
 use Rattle.access.specs.Accesses.{access_number, access_of}
 use Rattle.access.specs.declared.Access.{Access}
-use Rattle.access.proofs.Laws.{access_back}
+use Rattle.digest.proofs.Laws.{flags_number}
 use Rattle.digest.specs.Digests.{flags_access}
-use Rattle.implicit.specs.Lists.{entry_at}
+use Rattle.implicit.specs.Lists.{entry_at, rdi}
+use Rattle.implicit.specs.declared.Way.{Way}
+use Rattle.implicit.specs.declared.ImplicitOperand.{ImplicitOperand}
+use Rattle.implicit.specs.declared.ImplicitOperand.TheVariants.{MemDeref}
 use Rattle.implicit.specs.declared.Entry.{Entry}
 use Rattle.implicit.specs.declared.Entry.TheVariants.{Operand, Slot, End}
-use Rattle.implicit.proofs.Laws.{is_end, step, stop}
+use Rattle.implicit.proofs.Laws.{is_end, step, stop, below_four}
 use Rattle.record.specs.declared.Record.{Record}
 use Rattle.definition.specs.declared.Item.{Item}
-use Rattle.definition.specs.declared.Item.TheVariants.{Flags}
-use Rattle.definition.specs.Listings.{entry_items, explicit_at, flag_items, items_of}
+use Rattle.definition.specs.declared.Item.TheVariants.{Flags, Implicit}
+use Rattle.definition.specs.Listings.{way_access, entry_items, explicit_at, flag_items, items_of}
 use Rattle.listing.specs.declared.AccessIter.{AccessIter}
-use Rattle.listing.specs.declared.Listed.{Listed}
-use Rattle.listing.specs.declared.Listed.TheVariants.{Found, Finished}
-use Rattle.listing.specs.Cursors.{place, explicit_items, implicit_items, items_from, first_in, explicit_next, implicit_next, flags_next, next_of, items_by}
+use Rattle.listing.specs.Cursors.{Step, place, explicit_items, implicit_items, items_from, first_in, explicit_next, implicit_next, flags_next, next_of, items_by}
 
 -- all items are left at the first place
 pub at_first : (x : Record) → items_from x (place false 0) ≡ items_of x
@@ -39,7 +41,7 @@ module _ (x : Record) (i : ℕ) where
   unfolding items_from explicit_next
   explicit_left = go (drop i (explicit_items x)) (drop-drop 1 i (explicit_items x))
     where
-      go : (is : List Item) → drop 1 is ≡ drop (i + 1) (explicit_items x) → is ≡ items_by x (first_in is (place true (i + 1)) Finished)
+      go : (is : List Item) → drop 1 is ≡ drop (i + 1) (explicit_items x) → is ≡ items_by x (first_in is (place true (i + 1)) None)
       go [] e = refl
       go (o ∷ os) e = ap (λ (l : List Item). o ∷ l) e
 
@@ -109,52 +111,77 @@ module _ (x : Record) (i : ℕ) where
   four_at f d (suc (suc (suc zero))) h = refl
   four_at f d (suc (suc (suc (suc k)))) h = absurd (omega arith)
 
-  pub operand_here : i < x.count → i < 4 → explicit_next x i ≡ Found (explicit_at x i) (place true (i + 1))
+  pub operand_here : {o : Item} → i < x.count → i < 4 → o ≡ explicit_at x i → Some (o, place true (i + 1)) ≡ explicit_next x i
   unfolding explicit_next explicit_items
-  operand_here h k =
+  operand_here h k e =
       let d = explicit_at x i in
       let four = explicit_at x 0 ∷ explicit_at x 1 ∷ explicit_at x 2 ∷ explicit_at x 3 ∷ [] in
       let inside : i < length (take x.count four) = simp length-take (omega arith) in
-      rw (drop-cons (take x.count four) i d inside, get_or-take x.count four i d h, four_at (explicit_at x) d i k)
+      rw (e, drop-cons (take x.count four) i d inside, get_or-take x.count four i d h, four_at (explicit_at x) d i k)
 
-  pub operand_none : (x.count ≤ i) ⊎ (4 ≤ i) → explicit_next x i ≡ Finished
+  pub operand_none : (x.count ≤ i) ⊎ (4 ≤ i) → None ≡ explicit_next x i
   unfolding explicit_next explicit_items
   operand_none h =
       let four = explicit_at x 0 ∷ explicit_at x 1 ∷ explicit_at x 2 ∷ explicit_at x 3 ∷ [] in
       let past : length (take x.count four) ≤ i = simp length-take (⊎_elim (λ a. omega arith) (λ a. omega arith) h) in
       rw (drop_of_length-le (take x.count four) past)
 
-  pub entry_found : {e : Entry} {item : Item} → entry_at x.digest.extra i ≡ e → entry_items e ≡ item ∷ [] → implicit_next x i ≡ Found item (place false (i + 2))
-  unfolding implicit_next
-  entry_found p q = rw (p, q)
+  -- an entry of the implicit list: it is one of four, and its item is what is found
+  module _ {e : Entry} (q : e ≡ entry_at x.digest.extra i) where
+    pub operand_below : {o : ImplicitOperand} {w : Way} → e ≡ Operand o w → i < 4
+    operand_below p = below_four x.digest.extra i (sym q ∙ p) refl
 
-  pub entry_over : entry_at x.digest.extra i ≡ End → implicit_next x i ≡ explicit_next x 0
-  unfolding implicit_next entry_items
-  entry_over p = rw p
+    pub slot_below : {n : ℕ} {w : Way} → e ≡ Slot n w → i < 4
+    slot_below p = below_four x.digest.extra i (sym q ∙ p) refl
 
-pub flags_found :
-    (x : Record) {a : Access} → access_number a ≡ flags_access x.digest → (access_number a ≡ 0 → ⊥)
-    → flags_next x ≡ Found (Flags a) (place false 1)
-unfolding flags_next flag_items
-flags_found x {a} e ne = rw (← e, ne_eqb (access_number a) 0 ne, access_back a)
+    pub operand_found :
+        {o : ImplicitOperand} {w : Way} {r : Step} → e ≡ Operand o w → r ≡ Some (Implicit o (way_access w), place false (i + 2)) → r ≡ implicit_next x i
+    unfolding implicit_next entry_items
+    operand_found p f = rw (← q, p) f
 
-pub flags_none : (x : Record) → flags_access x.digest ≡ 0 → flags_next x ≡ implicit_next x 0
-unfolding flags_next flag_items
-flags_none x e = rw (eq-eqb (flags_access x.digest) 0 e)
+    pub slot_found :
+        {n : ℕ} {w : Way} {r : Step} → e ≡ Slot n w → r ≡ Some (Implicit (MemDeref rdi) (way_access w), place false (i + 2)) → r ≡ implicit_next x i
+    unfolding implicit_next entry_items
+    slot_found p f = rw (← q, p) f
 
-module _ (x : Record) (c : AccessIter) where
-  pub at_explicit : c.explicit ≡ true → next_of x c ≡ explicit_next x c.next
+    pub entry_over : {r : Step} → e ≡ End → r ≡ explicit_next x 0 → r ≡ implicit_next x i
+    unfolding implicit_next entry_items
+    entry_over p f = rw (← q, p) f
+
+-- the flags
+module _ (x : Record) {a : Access} (e : a ≡ access_of (flags_access x.digest)) {n : ℕ} (k : n ≡ access_number a) where
+  number : n ≡ flags_access x.digest
+  number = k ∙ flags_number x.digest e
+
+  pub flags_found : (n ≡ 0 → ⊥) → Some (Flags a, place false 1) ≡ flags_next x
+  unfolding flags_next flag_items
+  flags_found ne = rw (ne_eqb (flags_access x.digest) 0 (λ z. ne (number ∙ z)), e)
+
+  pub flags_none : {r : Step} → n ≡ 0 → r ≡ implicit_next x 0 → r ≡ flags_next x
+  unfolding flags_next flag_items
+  flags_none z f = rw (eq-eqb (flags_access x.digest) 0 (sym number ∙ z)) f
+
+-- the places
+module _ (x : Record) (c : AccessIter) {r : Step} where
+  pub at_explicit : c.explicit ≡ true → r ≡ explicit_next x c.next → r ≡ next_of x c
   unfolding next_of
-  at_explicit e = rw e
+  at_explicit e f = rw e f
 
-  pub at_flags : c.explicit ≡ false → c.next ≡ 0 → next_of x c ≡ flags_next x
+  pub at_flags : c.explicit ≡ false → c.next ≡ 0 → r ≡ flags_next x → r ≡ next_of x c
   unfolding next_of
-  at_flags e z = rw (e, eq-eqb c.next 0 z)
+  at_flags e z f = rw (e, eq-eqb c.next 0 z) f
 
-  pub at_implicit : c.explicit ≡ false → (c.next ≡ 0 → ⊥) → next_of x c ≡ implicit_next x (c.next - 1)
+  pub at_implicit : c.explicit ≡ false → (c.next ≡ 0 → ⊥) → r ≡ implicit_next x (c.next - 1) → r ≡ next_of x c
   unfolding next_of
-  at_implicit e z = rw (e, ne_eqb c.next 0 z)
+  at_implicit e z f = rw (e, ne_eqb c.next 0 z) f
 
   -- what the next answer says of the items that were left
-  pub left_by_lem : {r : Listed} → r ≡ next_of x c → items_from x c ≡ items_by x r
+  left_by_lem : r ≡ next_of x c → items_from x c ≡ items_by x r
   left_by_lem e = walks x c ∙ ap (items_by x) (sym e)
+
+  module _ (e : r ≡ next_of x c) where
+    pub found_left : {o : Item} {d : AccessIter} → r ≡ Some (o, d) → items_from x c ≡ o ∷ items_from x d
+    found_left f = left_by_lem e ∙ ap (items_by x) f
+
+    pub none_left : r ≡ None → items_from x c ≡ []
+    none_left f = left_by_lem e ∙ ap (items_by x) f

@@ -15,6 +15,10 @@ use Rattle.implicit.specs.declared.ImplicitOperand.{ImplicitOperand}
 use Rattle.definition.specs.declared.Item.TheVariants.{Implicit}
 use Rattle.definition.specs.Listings.{operand_bytes, item_bytes}
 
+-- the room of one thing is that of its bytes
+pub one_room : {A : Type 0} (enc : A → List ℕ) {x e : A} {k : ℕ} → x ≡ e → size enc (x ∷ []) ≤ k → length (enc e) ≤ k
+one_room enc {e = e} p h = rw (p, one_size enc e) at h
+
 -- an operand and its access behind it
 module _ (o : ImplicitOperand) (a : Access) where
   operand_length : length (item_bytes (Implicit o a)) ≡ length (operand_bytes o) + 1

@@ -5,8 +5,8 @@ ghost use Rattle.listing.specs.Calls.{listed_from};
 ghost use Rattle.listing.specs.Fields.{listed_of};
 ghost use Rattle.definition.specs.Listings.{items_of, item_bytes, listing_of, listing_call};
 
+use crate::AccessIter;
 use crate::items::put_item;
-use crate::{AccessIter, Listed};
 use definition::Answer;
 use digest::BehaviorDigest;
 use record::Record;
@@ -19,20 +19,18 @@ fn put_items(out: &mut [u8], x: Record) -> usize
 {
     let mut n = 0;
     let mut c = AccessIter::new();
-    loop {
-        let r = c.next(x);
-        let Listed::Found(item, behind) = r else {
-            return n;
-        };
+    while let Some((item, behind)) = c.next(x) {
         n = n + put_item(&mut out[n..], item);
         c = AccessIter {
             explicit: behind.explicit,
             next: behind.next,
         };
     }
+    n
 }
 
 // The same by the fields that a listing looks at: a record by value would go through memory at the call.
+#[tactic(auto, unfolding(crate::specs::Fields::listed_of))]
 fn put_fields(
     out: &mut [u8],
     count: u8,
@@ -65,6 +63,7 @@ fn put_fields(
 }
 
 // The listing of a record after fix-ups, to the front of what is lent.
+#[tactic(auto, using(crate::proofs::Narrow::narrow_room))]
 pub fn put_listing(out: &mut [u8], x: Record) -> usize
     requires { size item_bytes (items_of x) ≤ length out.old }
     ensures { Logged item_bytes (items_of x) out.old out.new result }
@@ -78,6 +77,7 @@ pub fn put_listing(out: &mut [u8], x: Record) -> usize
 const MOST_LISTED: usize = 34;
 
 // How long a listing is: it is written aside, and counted.
+#[tactic(auto, using(definition::proofs::ListingBound::items_size))]
 fn listing_length(x: Record) -> usize
     ensures { result ≡ length (listing_of x) }
 {

@@ -1,11 +1,10 @@
 // The walk along a listing: the flags, the implicit list, the explicit operands.
-ghost use Rattle.std.specs.Prelude.{◌≡◌, false, ◌+◌, ◌<◌};
+ghost use Rattle.std.specs.Prelude.{◌≡◌, Some, false, ◌+◌, ◌<◌};
 ghost use Rattle.definition.specs.Listings.{way_access, explicit_at};
 ghost use Rattle.definition.specs.declared.Item.TheVariants.{Implicit};
-ghost use Rattle.listing.specs.declared.Listed.TheVariants.{Found};
 ghost use Rattle.listing.specs.Cursors.{place, explicit_next, implicit_next, flags_next, next_of};
 
-use crate::{AccessIter, Listed};
+use crate::AccessIter;
 use access::Access;
 use definition::Item;
 use implicit::{Entry, ImplicitOperand, Way};
@@ -22,8 +21,9 @@ impl AccessIter {
         }
     }
 
-    // The item at a place and the place behind it. The record is one after fix-ups.
-    pub fn next(self, x: Record) -> Listed
+    // The item at a place and the place behind it, or none where nothing is left. The record is one after fix-ups.
+    #[tactic(auto, using(crate::proofs::Walking::at_explicit, crate::proofs::Walking::at_flags, crate::proofs::Walking::at_implicit))]
+    pub fn next(self, x: Record) -> Option<(Item, AccessIter)>
         ensures { result ≡ next_of x self }
     {
         let at = self.next;
@@ -38,7 +38,8 @@ impl AccessIter {
 }
 
 // The flags, if they are accessed at all.
-fn flags_next(x: Record) -> Listed
+#[tactic(auto, using(crate::proofs::Walking::flags_found, crate::proofs::Walking::flags_none))]
+fn flags_next(x: Record) -> Option<(Item, AccessIter)>
     ensures { result ≡ flags_next x }
 {
     let digest = x.digest;
@@ -46,17 +47,18 @@ fn flags_next(x: Record) -> Listed
     if access.to_bits() == 0 {
         return implicit_next(x, 0);
     }
-    Listed::Found(
+    Some((
         Item::Flags(access),
         AccessIter {
             explicit: false,
             next: 1,
         },
-    )
+    ))
 }
 
 // Entry i of the implicit list, or past its end the first explicit operand. A string slot lists as memory at rdi, whatever its own register.
-fn implicit_next(x: Record, i: u8) -> Listed
+#[tactic(auto, using(crate::proofs::Walking::operand_below, crate::proofs::Walking::slot_below, crate::proofs::Walking::entry_over))]
+fn implicit_next(x: Record, i: u8) -> Option<(Item, AccessIter)>
     ensures { result ≡ implicit_next x i }
 {
     let digest = x.digest;
@@ -71,17 +73,17 @@ fn implicit_next(x: Record, i: u8) -> Listed
     }
 }
 
-fn implicit_found(o: ImplicitOperand, way: Way, i: u8) -> Listed
+fn implicit_found(o: ImplicitOperand, way: Way, i: u8) -> Option<(Item, AccessIter)>
     requires { i < 4 }
-    ensures { result ≡ Found (Implicit o (way_access way)) (place false (i + 2)) }
+    ensures { result ≡ Some (Implicit o (way_access way), place false (i + 2)) }
 {
-    Listed::Found(
+    Some((
         Item::Implicit(o, access_of(way)),
         AccessIter {
             explicit: false,
             next: i + 2,
         },
-    )
+    ))
 }
 
 fn access_of(way: Way) -> Access
@@ -94,24 +96,23 @@ fn access_of(way: Way) -> Access
 }
 
 // Explicit operand i, whatever its access.
-fn explicit_next(x: Record, i: u8) -> Listed
+#[tactic(auto, using(crate::proofs::Walking::operand_here, crate::proofs::Walking::operand_none))]
+fn explicit_next(x: Record, i: u8) -> Option<(Item, AccessIter)>
     ensures { result ≡ explicit_next x i }
 {
-    if x.count <= i {
-        return Listed::Finished;
+    if x.count <= i || 4 <= i {
+        return None;
     }
-    if 4 <= i {
-        return Listed::Finished;
-    }
-    Listed::Found(
+    Some((
         explicit_item(x, i),
         AccessIter {
             explicit: true,
             next: i + 1,
         },
-    )
+    ))
 }
 
+#[tactic(auto, unfolding(definition::specs::Listings::explicit_at))]
 fn explicit_item(x: Record, i: u8) -> Item
     ensures { result ≡ explicit_at x i }
 {

@@ -10,6 +10,19 @@ use definition::Item;
 use implicit::ImplicitOperand;
 use registers::RegSpec;
 
+// The first byte of an item: what it is, and of an implicit operand its form.
+const FLAGS: u8 = 0x41;
+
+const REGISTER: u8 = 0x42;
+
+const MEM_DEREF: u8 = 0x43;
+
+const DISP: u8 = 0x44;
+
+const MEM_BASE_INDEX_SCALE: u8 = 0x45;
+
+const EXPLICIT: u8 = 0x46;
+
 pub fn put_item(out: &mut [u8], item: Item) -> usize
     requires { size item_bytes (item ∷ []) ≤ length out.old }
     ensures { Logged item_bytes (item ∷ []) out.old out.new result }
@@ -25,7 +38,7 @@ fn put_flags(out: &mut [u8], a: Access) -> usize
     requires { 2 ≤ length out.old }
     ensures { (result ≡ 2) × (out.new ≡ item_bytes (Flags a) ++ drop 2 out.old) }
 {
-    out[0] = 0x41;
+    out[0] = FLAGS;
     out[1] = a.to_bits();
     2
 }
@@ -34,7 +47,7 @@ fn put_explicit(out: &mut [u8], i: u8, s: u8, a: Access) -> usize
     requires { 4 ≤ length out.old }
     ensures { (result ≡ 4) × (out.new ≡ item_bytes (Explicit i s a) ++ drop 4 out.old) }
 {
-    out[0] = 0x46;
+    out[0] = EXPLICIT;
     out[1] = i;
     out[2] = s;
     out[3] = a.to_bits();
@@ -56,8 +69,8 @@ fn put_operand(out: &mut [u8], o: ImplicitOperand) -> usize
     ensures { Logged operand_bytes (o ∷ []) out.old out.new result }
 {
     match o {
-        ImplicitOperand::Register(y) => put_register(out, 0x42, y),
-        ImplicitOperand::MemDeref(y) => put_register(out, 0x43, y),
+        ImplicitOperand::Register(y) => put_register(out, REGISTER, y),
+        ImplicitOperand::MemDeref(y) => put_register(out, MEM_DEREF, y),
         ImplicitOperand::Disp(y, d) => put_disp(out, y, d),
         ImplicitOperand::MemBaseIndexScale(y, z, k) => put_base_index(out, y, z, k),
     }
@@ -78,7 +91,7 @@ fn put_disp(out: &mut [u8], y: RegSpec, d: u32) -> usize
     requires { 7 ≤ length out.old }
     ensures { (result ≡ 7) × (out.new ≡ operand_bytes (Disp y d) ++ drop 7 out.old) }
 {
-    put_register(out, 0x44, y);
+    put_register(out, DISP, y);
     laws::put_u32(&mut out[3..], d);
     7
 }
@@ -87,7 +100,7 @@ fn put_base_index(out: &mut [u8], y: RegSpec, z: RegSpec, k: u8) -> usize
     requires { 6 ≤ length out.old }
     ensures { (result ≡ 6) × (out.new ≡ operand_bytes (MemBaseIndexScale y z k) ++ drop 6 out.old) }
 {
-    out[0] = 0x45;
+    out[0] = MEM_BASE_INDEX_SCALE;
     out[1] = y.bank;
     out[2] = y.number;
     out[3] = z.bank;

@@ -6,7 +6,6 @@ mod cursor;
 mod items;
 
 pub use call::{list_operands, put_listing};
-use definition::Item;
 pub use items::put_item;
 
 // A place in the walk, as the Rust's iterator holds it without the record: before the explicit operands, `next` 0 stands at the flags and
@@ -15,11 +14,4 @@ pub use items::put_item;
 pub struct AccessIter {
     pub explicit: bool,
     pub next: u8,
-}
-
-// What a step of the walk finds: an item and the place behind it, or nothing left.
-#[derive(Clone, Copy)]
-pub enum Listed {
-    Found(Item, AccessIter),
-    Finished,
 }

@@ -19,6 +19,7 @@ pub fn fourth_of(b: &[u8]) -> RegSpec
 }
 
 // A write to bank D is logged as one to bank Q: it zero-extends.
+#[tactic(auto, unfolding(definition::specs::Steps::widened))]
 pub fn apply_x86_zext(y: RegSpec) -> RegSpec
     ensures { result ≡ widened y }
 {
@@ -33,6 +34,7 @@ pub fn apply_x86_zext(y: RegSpec) -> RegSpec
 }
 
 // The base of fs for segment 1, else that of gs.
+#[tactic(auto, unfolding(definition::specs::Addresses::segment_register))]
 pub fn segment_register(segment: u8) -> RegSpec
     ensures { result ≡ segment_register segment }
 {

@@ -3,18 +3,18 @@ use Prim.Native.Nat.{ℕ, ◌%◌, ◌≤◌, ◌<◌, zero, suc}
 use native.Mathlib.Omega.{arith}
 use native.Mathlib.Nat.{le_of_suc-le-suc}
 use mathlib.Core.Path.{◌≡◌, refl, sym, ap, ◌∙◌}
-use mathlib.Core.Bool.{Bool, true, false, not, ◌&&◌, ◌||◌, or-true}
+use mathlib.Core.Bool.{Bool, true, false, not, ◌&&◌, ◌||◌, or-true, or-false}
 use mathlib.Core.List.{[], ◌∷◌}
 use lib.ListN.{get_or-eq_default}
 use lib.Dec.{ltb, eqb}
 use borrow.Author.Tests.{ltb-true, ltb-false, lt-ltb, le-ltb, eq-eqb, ne_eqb}
 use Rattle.implicit.proofs.Table.{firsts}
-use Rattle.laws.specs.Tests.{is_in}
+use Rattle.laws.specs.Tests.{any, is_in}
 use Rattle.registers.specs.Banks.{is_register}
 use Rattle.record.specs.declared.Record.{Record}
-use Rattle.record.specs.Records.{reg_at}
-use Rattle.definition.specs.Tables.{shapes, shape_of}
-use Rattle.definition.specs.Refusals.{unnamed, sizeless, accessed}
+use Rattle.record.specs.Records.{reg_at, spec_at}
+use Rattle.definition.specs.Tables.{shapes, shape_of, string_specs}
+use Rattle.definition.specs.Refusals.{unnamed, nameless, no_slot, sizeless, accessed}
 use Rattle.definition.specs.Behaviors.{is_memory}
 use Rattle.definition.specs.declared.Shape.TheVariants.{Nothing, Fourth}
 
@@ -58,7 +58,20 @@ module _ (x : Record) where
   unfolding sizeless
   has_size ne = rw (ne_eqb _ _ ne)
 
-  pub no_size :
-      {m n : Bool} → x.size ≡ 0 → m ≡ accessed is_memory x → n ≡ is_in x.digest.extra (15 ∷ 16 ∷ 26 ∷ 27 ∷ 28 ∷ []) → (m || n) ≡ sizeless x
+  pub size_by_access : {m : Bool} → x.size ≡ 0 → m ≡ accessed is_memory x → m ≡ true → m ≡ sizeless x
   unfolding sizeless
-  no_size e f g = rw (eq-eqb _ _ e, f, g)
+  size_by_access e f h = rw (eq-eqb _ _ e, ← f, h)
+
+  pub size_by_list :
+      {m n : Bool} → x.size ≡ 0 → m ≡ accessed is_memory x → m ≡ false → n ≡ is_in x.digest.extra (15 ∷ 16 ∷ 26 ∷ 27 ∷ 28 ∷ []) → n ≡ sizeless x
+  unfolding sizeless
+  size_by_list e f h g = rw (eq-eqb _ _ e, ← f, h, g)
+
+-- refusal 5: an access that names no register, or a slot that holds none
+module _ (x : Record) where
+  pub names_all :
+      {a s : Bool} → a ≡ accessed (unnamed x) x
+      → s ≡ ((is_in x.digest.extra (24 ∷ 25 ∷ []) && not (is_in (spec_at x 0) string_specs)) || (eqb x.digest.extra 25 && not (is_in (spec_at x 1) string_specs)))
+      → (a || s) ≡ nameless x
+  unfolding nameless no_slot any
+  names_all e f = rw (e, f) (simp or-false)

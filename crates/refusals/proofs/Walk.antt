@@ -6,7 +6,10 @@ use lib.ListN.{length, drop, drop_of_length-le}
 use lib.Dec.{eqb}
 use Rattle.laws.specs.Tests.{any}
 use Rattle.laws.proofs.Choice.{any_here, any_later}
+use Rattle.digest.specs.Digests.{access_at}
+use Rattle.record.specs.Records.{spec_at}
 use Rattle.record.specs.declared.Record.{Record}
+use Rattle.definition.specs.Tables.{shape_of}
 use Rattle.definition.specs.Behaviors.{Operand, operand_at, operands_of}
 use Rattle.definition.specs.Refusals.{accessed}
 use Rattle.definition.specs.declared.Shape.{Shape}
@@ -30,8 +33,23 @@ module _ (p : Shape → Bool) (x : Record) where
     unfolding any
     none_left h = rw (drop_of_length-le (operands_of x) {i = i} h) at left.rest
 
-    pub hit : i < length (operands_of x) → picks p (operand_at x i) ≡ true → true ≡ accessed p x
-    hit h e = sym (any_here (picks p) (operand_at x i) (drop (i + 1) (operands_of x)) e) ∙ rw (operand_step x i h) at left.rest
+    -- a test of operand i: it is accessed, and r says what the test asks of its shape
+    module _ (h : i < length (operands_of x)) where
+      later : picks p (operand_at x i) ≡ false → Left p x (i + 1)
+      later e = record { rest = sym (any_later (picks p) (operand_at x i) (drop (i + 1) (operands_of x)) e) ∙ rw (operand_step x i h) at left.rest }
 
-    pub miss : i < length (operands_of x) → picks p (operand_at x i) ≡ false → Left p x (i + 1)
-    miss h e = record { rest = sym (any_later (picks p) (operand_at x i) (drop (i + 1) (operands_of x)) e) ∙ rw (operand_step x i h) at left.rest }
+      module _ {a : Bool} (accesses : a ≡ not (eqb (access_at x.digest i) 0)) where
+        pub unaccessed : a ≡ false → Left p x (i + 1)
+        unaccessed t = later (rw (← accesses, t))
+
+        module _ {r : Bool} {s : ℕ} (e : s ≡ spec_at x i) (q : r ≡ p (shape_of s)) (t : a ≡ true) where
+          asked : picks p (operand_at x i) ≡ r
+          asked = rw (← accesses, t, ← e, ← q)
+
+          pub hit : r ≡ true → true ≡ accessed p x
+          hit f =
+              sym (any_here (picks p) (operand_at x i) (drop (i + 1) (operands_of x)) (asked ∙ f))
+              ∙ rw (operand_step x i h) at left.rest
+
+          pub miss : r ≡ false → Left p x (i + 1)
+          miss f = later (asked ∙ f)

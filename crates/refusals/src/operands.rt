@@ -1,15 +1,16 @@
 // What refusals 5 and 6 ask of the operands below count that are accessed.
-ghost use Rattle.std.specs.Prelude.{◌≡◌, not, ◌&&◌, eqb};
+ghost use Rattle.std.specs.Prelude.{◌≡◌, ℕ, Bool, not, eqb};
 ghost use Rattle.digest.specs.Digests.{access_at};
-ghost use Rattle.record.specs.Records.{spec_at};
 ghost use Rattle.definition.specs.Tables.{shape_of};
 ghost use Rattle.definition.specs.Behaviors.{is_memory};
 ghost use Rattle.definition.specs.Refusals.{accessed, unnamed};
+ghost use Rattle.definition.specs.declared.Shape.{Shape};
 
 use record::Record;
 use registers::RegSpec;
 
 // The access is other than none.
+#[tactic(auto, using(digest::proofs::Laws::operand_number))]
 fn is_accessed(x: Record, i: u8) -> bool
     ensures { result ≡ not (eqb (access_at x.digest i) 0) }
 {
@@ -29,48 +30,30 @@ fn is_unnamed(x: Record, spec: u8) -> bool
     }
 }
 
-fn is_unnamed_at(x: Record, i: u8) -> bool
-    ensures { result ≡ not (eqb (access_at x.digest i) 0) && unnamed x (shape_of (spec_at x i)) }
+// Some operand below count is accessed, and its spec passes the test: what a shape is asked, by its spec.
+fn accesses<F: Fn(u8) -> bool>(x: Record, test: F) -> bool
+    requires { F.IsAlwaysCallable test }
+    ensures { (p : Shape → Bool) → ((s : ℕ) (r : Bool) → F.post test s r → r ≡ p (shape_of s)) → result ≡ accessed p x }
 {
-    is_accessed(x, i) && is_unnamed(x, x.spec(i))
-}
-
-fn is_memory_at(x: Record, i: u8) -> bool
-    ensures { result ≡ not (eqb (access_at x.digest i) 0) && is_memory (shape_of (spec_at x i)) }
-{
-    is_accessed(x, i) && operand::is_memory(x.spec(i))
+    for i in 0..4 {
+        if x.count <= i {
+            return false;
+        }
+        if is_accessed(x, i) && test(x.spec(i)) {
+            return true;
+        }
+    }
+    false
 }
 
 pub fn accesses_unnamed(x: Record) -> bool
     ensures { result ≡ accessed (unnamed x) x }
 {
-    let count = x.count;
-    let mut i: u8 = 0;
-    while i < 4 {
-        if count <= i {
-            return false;
-        }
-        if is_unnamed_at(x, i) {
-            return true;
-        }
-        i = i + 1;
-    }
-    false
+    accesses(x, |spec| is_unnamed(x, spec))
 }
 
 pub fn accesses_memory(x: Record) -> bool
     ensures { result ≡ accessed is_memory x }
 {
-    let count = x.count;
-    let mut i: u8 = 0;
-    while i < 4 {
-        if count <= i {
-            return false;
-        }
-        if is_memory_at(x, i) {
-            return true;
-        }
-        i = i + 1;
-    }
-    false
+    accesses(x, |spec| operand::is_memory(spec))
 }

@@ -9,6 +9,7 @@ use operand::is_string;
 use record::Record;
 
 // List 24 names slot 0, and list 25 slots 0 and 1.
+#[tactic(auto, unfolding(laws::specs::Tests::any, laws::specs::Tests::is_in))]
 fn lacks_slot(list: u16, first: u8, second: u8) -> bool
     ensures { result ≡ (is_in list (24 ∷ 25 ∷ []) && not (is_in first string_specs)) || (eqb list 25 && not (is_in second string_specs)) }
 {
@@ -20,12 +21,14 @@ fn lacks_slot(list: u16, first: u8, second: u8) -> bool
 }
 
 // The implicit lists that touch memory by `mem_size`.
+#[tactic(auto, unfolding(laws::specs::Tests::any, laws::specs::Tests::is_in))]
 fn needs_size(list: u16) -> bool
     ensures { result ≡ is_in list (15 ∷ 16 ∷ 26 ∷ 27 ∷ 28 ∷ []) }
 {
-    (list == 15) | (list == 16) | (list == 26) | (list == 27) | (list == 28)
+    matches!(list, 15 | 16 | 26 | 27 | 28)
 }
 
+#[tactic(auto, using(crate::proofs::Shapes::names_all))]
 pub fn is_nameless(x: Record) -> bool
     ensures { result ≡ nameless x }
 {
@@ -33,12 +36,9 @@ pub fn is_nameless(x: Record) -> bool
 }
 
 // LEA has no rule of its own here.
-#[tactic(auto, using(crate::proofs::Shapes::has_size, crate::proofs::Shapes::no_size))]
+#[tactic(auto, using(crate::proofs::Shapes::has_size, crate::proofs::Shapes::size_by_access, crate::proofs::Shapes::size_by_list))]
 pub fn is_sizeless(x: Record) -> bool
     ensures { result ≡ sizeless x }
 {
-    if x.size != 0 {
-        return false;
-    }
-    accesses_memory(x) | needs_size(x.digest.extra)
+    x.size == 0 && (accesses_memory(x) || needs_size(x.digest.extra))
 }
