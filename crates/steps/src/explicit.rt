@@ -3,7 +3,7 @@ ghost use Rattle.std.specs.Prelude.{◌≡◌, ◌≤◌, ◌<◌, length};
 ghost use Rattle.laws.specs.Lending.{size, Logged};
 ghost use Rattle.record.specs.Records.{everyday_bytes, record_of};
 ghost use Rattle.definition.specs.Logs.{event_bytes};
-ghost use Rattle.steps.specs.Parts.{Lent, part_events, part_segment, added_by, based_events, way_of, part_count, part_bits, explicit_events};
+ghost use Rattle.steps.specs.Parts.{Lent, mask_of, part_events, part_segment, added_by, based_events, way_of, part_count, part_bits, explicit_events};
 
 use address::{Sources, low, plus, sign_extended, sum};
 use implicit::Way;
@@ -13,7 +13,16 @@ use record::Record;
 use registers::Value;
 use registers::names::{EDI, ESI, RDI, RSI};
 
+// Of the specs 18 to 33 that stand in pairs, the second of each pair has a mask.
+fn mask_of(b: &[u8], spec: u8) -> u8
+    requires { everyday_bytes ≤ length b.now }
+    ensures { result ≡ mask_of (record_of b.now) spec }
+{
+    if spec % 2 == 1 { record::mask_in(b) } else { 0 }
+}
+
 // One part of an operand, by its spec: Nothing and immediates log nothing. The base of its segment is what is added to its address.
+#[tactic(auto, unfolding(crate::specs::Parts::part_events))]
 fn put_part(log: &mut [u8], b: &[u8], spec: u8, way: Way, at: Sources, added: Value) -> usize
     requires { (everyday_bytes ≤ length b.now) × (size event_bytes (part_events (record_of b.now) way at added spec) ≤ length log.old) }
     ensures { Logged event_bytes (part_events (record_of b.now) way at added spec) log.old log.new result }
@@ -29,78 +38,46 @@ fn put_part(log: &mut [u8], b: &[u8], spec: u8, way: Way, at: Sources, added: Va
         2 => put_plain(log, way, base),
         3 => put_plain(log, way, record::reg_in(b, 3)),
         4 => put_plain(log, way, fourth_of(b)),
-        5 => put_masked(log, way, record::reg_in(b, 0), record::mask_in(b)),
-        6 => put_masked(log, way, record::reg_in(b, 0), record::mask_in(b)),
-        7 => put_masked(log, way, record::reg_in(b, 0), record::mask_in(b)),
-        8 => put_masked(log, way, base, record::mask_in(b)),
-        9 => put_masked(log, way, base, record::mask_in(b)),
+        5 | 6 | 7 => put_masked(log, way, record::reg_in(b, 0), record::mask_in(b)),
+        8 | 9 => put_masked(log, way, base, record::mask_in(b)),
         10 => put_masked(log, way, record::reg_in(b, 3), record::mask_in(b)),
-        18 => put_deref(log, b, way, base, 0, at_base, added),
-        19 => put_deref(log, b, way, base, record::mask_in(b), at_base, added),
+        18 | 19 => put_deref(log, b, way, base, mask_of(b, spec), at_base, added),
         20 => put_deref(log, b, way, RDI, 0, at_rdi, added),
         21 => put_deref(log, b, way, RSI, 0, at_rsi, added),
         22 => put_deref(log, b, way, EDI, 0, low(at_rdi), added),
         23 => put_deref(log, b, way, ESI, 0, low(at_rsi), added),
-        24 => put_deref(
+        24 | 25 => put_deref(
             log,
             b,
             way,
             base,
-            0,
+            mask_of(b, spec),
             plus(at_base, sign_extended(record::disp_in(b))),
             added,
         ),
-        25 => put_deref(
-            log,
-            b,
-            way,
-            base,
-            record::mask_in(b),
-            plus(at_base, sign_extended(record::disp_in(b))),
-            added,
-        ),
-        26 => put_deref(log, b, way, index, 0, at_index, added),
-        27 => put_deref(log, b, way, index, record::mask_in(b), at_index, added),
-        28 => put_deref(
+        26 | 27 => put_deref(log, b, way, index, mask_of(b, spec), at_index, added),
+        28 | 29 => put_deref(
             log,
             b,
             way,
             index,
-            0,
+            mask_of(b, spec),
             plus(at_index, sign_extended(record::disp_in(b))),
             added,
         ),
-        29 => put_deref(
+        30 | 31 => put_indexed(
             log,
             b,
             way,
-            index,
-            record::mask_in(b),
-            plus(at_index, sign_extended(record::disp_in(b))),
-            added,
-        ),
-        30 => put_indexed(log, b, way, 0, sum(at_base, at_index), added),
-        31 => put_indexed(
-            log,
-            b,
-            way,
-            record::mask_in(b),
+            mask_of(b, spec),
             sum(at_base, at_index),
             added,
         ),
-        32 => put_indexed(
+        32 | 33 => put_indexed(
             log,
             b,
             way,
-            0,
-            plus(sum(at_base, at_index), sign_extended(record::disp_in(b))),
-            added,
-        ),
-        33 => put_indexed(
-            log,
-            b,
-            way,
-            record::mask_in(b),
+            mask_of(b, spec),
             plus(sum(at_base, at_index), sign_extended(record::disp_in(b))),
             added,
         ),
@@ -131,6 +108,7 @@ fn way_of(part: u8) -> Way
 }
 
 // The segment whose base a part adds.
+#[tactic(auto, unfolding(crate::specs::Parts::part_segment))]
 fn segment_of(b: &[u8], spec: u8, way: Way) -> u8
     requires { everyday_bytes ≤ length b.now }
     ensures { result ≡ part_segment (record_of b.now) way spec }
@@ -165,6 +143,7 @@ fn put_based(log: &mut [u8], b: &[u8], spec: u8, way: Way, at: Sources) -> usize
 }
 
 // Two for each operand below count, of which there are at most four.
+#[tactic(auto, unfolding(crate::specs::Parts::part_count))]
 fn part_count(x: Record) -> u8
     ensures { (result ≡ part_count x) × (result ≤ 8) }
 {
