@@ -56,10 +56,6 @@ parts x w at g =
     ∷ access_events x w (plus_of (Known 0) x.disp) g ∷ access_events x w (plus_of (Known 0) (x.disp % 2 ^ 32)) g
     ∷ []
 
--- of the specs 18 to 33 that stand in pairs, the second of each pair has a mask
-abbrev pub mask_of : Record → ℕ → ℕ
-mask_of x s = cond (eqb (s % 2) 1) x.mask 0
-
 unfoldable pub part_events : Record → Way → Sources → Value → ℕ → List Event
 part_events x w at g s = get_or (parts x w at g) s []
 
