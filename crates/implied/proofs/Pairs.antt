@@ -1,5 +1,5 @@
 -- Two runs of events, written one behind the other. Assumes nothing.
-use Rattle.std.proofs.Common.{◌≡◌, ℕ, ◌+◌, ◌≤◌, List, ◌++◌, length, arith}
+use Rattle.std.proofs.Common.{ℕ, ◌≤◌, List, ◌++◌, length, arith}
 use Rattle.laws.specs.Lending.{size, Logged}
 use Rattle.laws.proofs.Lending.{part, room, size_append}
 use Rattle.definition.specs.Logs.{event_bytes}

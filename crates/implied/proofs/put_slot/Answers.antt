@@ -1,4 +1,3 @@
-use Rattle.std.proofs.Common.{◌≡◌, false}
 use Rattle.laws.specs.Lists.{flat}
 use Rattle.laws.proofs.Every.{in_none}
 use Rattle.laws.proofs.Lending.{silent}

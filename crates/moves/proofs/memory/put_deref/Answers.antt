@@ -30,8 +30,7 @@ put_mask-requires c =
 pub put_access-requires : goal.put_access-requires
 unfolding deref_events
 put_access-requires c =
-    let a = c.args in
-    (
+    let a = c.args in (
       c.requires.0,
       fits (next (first (behind a.b.now a.way a.mask a.at a.added) c.put_register-m.ensures c.requires.1 c.well_formed.0.0) c.put_mask.ensures),
     )

@@ -21,8 +21,7 @@ put_register-n-requires c =
 pub put_deref-requires : goal.put_deref-requires
 unfolding indexed_events
 put_deref-requires c =
-    let a = c.args in
-    (
+    let a = c.args in (
       c.requires.0,
       rw c.reg_in-2.ensures (fits (first (behind a.b.now a.way a.mask a.at a.added) (rw c.reg_in.ensures at c.put_register-n.ensures) c.requires.1 c.well_formed.0.0)),
     )

@@ -1,4 +1,4 @@
-use Rattle.std.proofs.Common.{List, [], ◌∷◌}
+use Rattle.std.proofs.Common.{[], ◌∷◌}
 use Rattle.laws.proofs.Lending.{first, next, fits, fits_first, whole}
 use Rattle.implicit.specs.declared.Way.TheVariants.{Read}
 use Rattle.definition.specs.Steps.{mask_registers}

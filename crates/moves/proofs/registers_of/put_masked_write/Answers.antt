@@ -1,4 +1,4 @@
-use Rattle.std.proofs.Common.{List, [], ◌∷◌}
+use Rattle.std.proofs.Common.{[], ◌∷◌}
 use Rattle.laws.proofs.Lending.{first, next, fits, fits_first, whole}
 use Rattle.definition.specs.Logs.{event_bytes}
 use Rattle.definition.specs.declared.Event.TheVariants.{RegisterWrite}

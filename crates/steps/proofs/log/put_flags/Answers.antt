@@ -1,4 +1,4 @@
-use Rattle.std.proofs.Common.{◌≡◌, Bool, true, false, [], ◌∷◌, sym, ap, ◌∙◌}
+use Rattle.std.proofs.Common.{◌≡◌, Bool, true, false, [], ◌∷◌}
 use Rattle.laws.proofs.Lending.{silent}
 use Rattle.access.specs.Accesses.{access_of, access_number}
 use Rattle.access.specs.declared.Access.{Access}

@@ -5,7 +5,6 @@ use Rattle.record.specs.declared.Record.{Record}
 use Rattle.definition.specs.Logs.{event_bytes}
 use Rattle.definition.specs.declared.Event.{Event}
 use Rattle.address.specs.declared.places.Sources.{Sources}
-use Rattle.implied.specs.Implied.{list_events}
 use Rattle.steps.specs.Parts.{explicit_events}
 use Rattle.steps.specs.Whole.{flags_by, log_events}
 use Rattle.steps.proofs.log.put_log.Goals as goal
@@ -28,11 +27,10 @@ put_flags-requires-2 c = fits (next (first (behind c.args.x c.args.at) c.put_lis
 
 pub put_operands-requires : goal.put_operands-requires
 unfolding log_events flags_by
-put_operands-requires c =
-    (
-      c.requires.0,
-      fits (next (next (first (behind c.args.x c.args.at) c.put_list-a.ensures c.requires.1 c.well_formed.0.0) c.put_flags.ensures) c.put_flags-2.ensures),
-    )
+put_operands-requires c = (
+  c.requires.0,
+  fits (next (next (first (behind c.args.x c.args.at) c.put_list-a.ensures c.requires.1 c.well_formed.0.0) c.put_flags.ensures) c.put_flags-2.ensures),
+)
 
 pub returns : goal.returns
 unfolding log_events flags_by
