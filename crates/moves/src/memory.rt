@@ -25,6 +25,7 @@ pub fn is_stopped(b: &[u8], way: Way) -> bool
 }
 
 // The access itself: the sum of every explicit operand comes here last, is cut here, and moved by the base of its segment.
+#[tactic(auto, unfolding(crate::specs::Touches::access_events, laws::specs::Lists::each))]
 pub fn put_access(log: &mut [u8], b: &[u8], way: Way, at: Value, added: Value) -> usize
     requires { (everyday_bytes ≤ length b.now) × (size event_bytes (access_events (record_of b.now) way at added) ≤ length log.old) }
     ensures { Logged event_bytes (access_events (record_of b.now) way at added) log.old log.new result }

@@ -14,7 +14,7 @@ use operand::{apply_x86_zext, segment_register};
 use registers::RegSpec;
 
 // Mask 0 is never logged.
-#[tactic(auto, using(crate::proofs::Masks::silent_count, crate::proofs::Masks::silent_bytes, crate::proofs::Masks::mask_fits, crate::proofs::Masks::logged_count, crate::proofs::Masks::logged_bytes))]
+#[tactic(auto, unfolding(definition::specs::Steps::mask_registers, event::specs::Moves::moved, laws::specs::Lists::each))]
 pub fn put_mask(log: &mut [u8], mask: u8) -> usize
     requires { size event_bytes (moved Read (mask_registers mask)) ≤ length log.old }
     ensures { Logged event_bytes (moved Read (mask_registers mask)) log.old log.new result }
@@ -33,6 +33,7 @@ pub fn put_mask(log: &mut [u8], mask: u8) -> usize
 }
 
 // The base of no segment is never logged.
+#[tactic(auto, unfolding(definition::specs::Addresses::segment_registers, event::specs::Moves::moved, laws::specs::Lists::each))]
 pub fn put_segment(log: &mut [u8], segment: u8) -> usize
     requires { size event_bytes (moved Read (segment_registers segment)) ≤ length log.old }
     ensures { Logged event_bytes (moved Read (segment_registers segment)) log.old log.new result }
@@ -43,6 +44,7 @@ pub fn put_segment(log: &mut [u8], segment: u8) -> usize
     put_register(log, Way::Read, segment_register(segment))
 }
 
+#[tactic(auto, unfolding(crate::specs::Touches::plain_events))]
 pub fn put_plain(log: &mut [u8], way: Way, y: RegSpec) -> usize
     requires { size event_bytes (plain_events way y) ≤ length log.old }
     ensures { Logged event_bytes (plain_events way y) log.old log.new result }

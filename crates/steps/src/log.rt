@@ -1,11 +1,13 @@
 // The whole log of a visit.
-ghost use Rattle.std.specs.Prelude.{◌≤◌, length};
+ghost use Rattle.std.specs.Prelude.{◌≡◌, ◌≤◌, length};
 ghost use Rattle.laws.specs.Lending.{size, Logged};
+ghost use Rattle.access.specs.Accesses.{access_number};
 ghost use Rattle.definition.specs.Logs.{event_bytes};
 ghost use Rattle.steps.specs.Parts.{Lent};
-ghost use Rattle.steps.specs.Whole.{flags_read, flags_write, log_events};
+ghost use Rattle.steps.specs.Whole.{goes, flags_by, log_events};
 
 use crate::explicit::put_operands;
+use access::Access;
 use address::Sources;
 use event::put_register;
 use implicit::Way;
@@ -13,25 +15,24 @@ use implied::put_list;
 use record::Record;
 use registers::names::RFLAGS;
 
-fn put_flags_read(log: &mut [u8], x: Record) -> usize
-    requires { size event_bytes (flags_read x) ≤ length log.old }
-    ensures { Logged event_bytes (flags_read x) log.old log.new result }
+// Whether an access goes this way.
+fn goes(access: Access, way: Way) -> bool
+    ensures { result ≡ goes way (access_number access) }
 {
-    let digest = x.digest;
-    if digest.flags_access().is_read() {
-        put_register(log, Way::Read, RFLAGS)
-    } else {
-        0
+    match way {
+        Way::Read => access.is_read(),
+        Way::Write => access.is_write(),
     }
 }
 
-fn put_flags_write(log: &mut [u8], x: Record) -> usize
-    requires { size event_bytes (flags_write x) ≤ length log.old }
-    ensures { Logged event_bytes (flags_write x) log.old log.new result }
+// The flags, where the record's access to them goes this way.
+fn put_flags(log: &mut [u8], way: Way, x: Record) -> usize
+    requires { size event_bytes (flags_by way x) ≤ length log.old }
+    ensures { Logged event_bytes (flags_by way x) log.old log.new result }
 {
     let digest = x.digest;
-    if digest.flags_access().is_write() {
-        put_register(log, Way::Write, RFLAGS)
+    if goes(digest.flags_access(), way) {
+        put_register(log, way, RFLAGS)
     } else {
         0
     }
@@ -44,7 +45,7 @@ pub fn put_log(log: &mut [u8], b: &[u8], x: Record, at: Sources) -> usize
 {
     let implied = at.implied;
     let a = put_list(log, x, implied);
-    let c = a + put_flags_read(&mut log[a..], x);
-    let d = c + put_flags_write(&mut log[c..], x);
+    let c = a + put_flags(&mut log[a..], Way::Read, x);
+    let d = c + put_flags(&mut log[c..], Way::Write, x);
     d + put_operands(&mut log[d..], b, x, at)
 }
