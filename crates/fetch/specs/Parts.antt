@@ -1,5 +1,6 @@
 -- The needs of a record by its parts, as the code goes through them: no promise to a caller rests on these.
 use Rattle.std.specs.Prelude.{ℕ, List, [], ◌∷◌, Bool, false, not, cond, ◌&&◌}
+use Rattle.laws.specs.Words.{bit}
 use Rattle.laws.specs.Lists.{each, flat}
 use Rattle.access.specs.Accesses.{reading, writing}
 use Rattle.implicit.specs.Lists.{implicit_of}
@@ -65,3 +66,7 @@ entry_needs entries.End = []
 
 unfoldable pub list_needs : ℕ → List ℕ
 list_needs l = each entry_needs (implicit_of l)
+
+-- a bit that is needed and not in the set
+abbrev pub lacking : ℕ → ℕ → ℕ → Bool
+lacking needs set k = bit needs k && not (bit set k)

@@ -1,5 +1,5 @@
 // A list of records that is not refused.
-ghost use Rattle.std.specs.Prelude.{◌≡◌, ◌/◌, ◌≤◌, ◌<◌, length, MatchResult};
+ghost use Rattle.std.specs.Prelude.{◌≡◌, ◌≢◌, ◌/◌, ◌≤◌, ◌<◌, length, MatchResult};
 ghost use Rattle.laws.specs.Refusals.{refusal_named};
 ghost use Rattle.records.specs.Lists.{most_records, list_refusal};
 
@@ -20,7 +20,7 @@ impl<'a> RecordList<'a> {
     pub fn new(bytes: &'a [u8], each: usize) -> Result<RecordList<'a>, Refusal>
         ensures { MatchResult result
             (λ l. (l.bytes ≡ bytes.entry) × (l.each ≡ each) × (list_refusal (length bytes.now) each ≡ 0))
-            (λ r. r ≡ refusal_named (list_refusal (length bytes.now) each)) }
+            (λ r. (list_refusal (length bytes.now) each ≢ 0) × (r ≡ refusal_named (list_refusal (length bytes.now) each))) }
     {
         crate::check(bytes.len(), each)?;
         Ok(RecordList { bytes, each })
