@@ -49,16 +49,23 @@ unfolding cut
 cut_length zero each b = refl
 cut_length (suc n) each b = ap suc (cut_length n each (drop each b))
 
--- the records of the bytes that are left: the first, and those behind it
-pub records_next :
-    (each : ℕ) {b : List ℕ} (x rest : List ℕ) → 0 < each → length x ≡ each → b ≡ x ++ rest → records_in each b ≡ x ∷ records_in each rest
-unfolding records_in cut
-records_next each x rest some long e =
-    let n : length (x ++ rest) ≡ length rest + each = length-append x rest ∙ add_comm (length x) (length rest) ∙ ap (λ (k : ℕ). length rest + k) long in
-    let d : (length rest + each) / each ≡ suc (length rest / each) = omega (arith, add-div_right (length rest) some) in
-    rw (e, n, d, ← long, take-append_seam x rest, drop-append_seam x rest)
+-- the bytes that are left of a list begin with record x
+module _ (each : ℕ) {left : List ℕ} (x rest : List ℕ) (some : 0 < each) (long : length x ≡ each) (next : left ≡ x ++ rest) where
+  -- how many records they are
+  pub count_next : length left / each ≡ suc (length rest / each)
+  count_next =
+      let n : length (x ++ rest) ≡ length rest + each = length-append x rest ∙ add_comm (length x) (length rest) ∙ ap (λ (k : ℕ). length rest + k) long in
+      rw (next, n) (omega (arith, add-div_right (length rest) some))
+
+  -- that record, and those behind it
+  pub records_next : records_in each left ≡ x ∷ records_in each rest
+  unfolding records_in cut
+  records_next = rw (count_next, next, ← long, take-append_seam x rest, drop-append_seam x rest)
 
 -- none is left
-pub records_end : (each : ℕ) (b : List ℕ) → length b < each → records_in each b ≡ []
+pub count_end : (each : ℕ) (left : List ℕ) → length left < each → length left / each ≡ 0
+count_end each left short = div-eq_of_lt short
+
+pub records_end : (each : ℕ) (left : List ℕ) → length left < each → records_in each left ≡ []
 unfolding records_in cut
-records_end each b short = rw (div-eq_of_lt short)
+records_end each left short = rw (count_end each left short)

@@ -1,6 +1,5 @@
-use Rattle.std.proofs.Common.{rules, ap, ◌∙◌, arith}
-use Rattle.std.specs.Iterator.Adapters.{enumerate_source, enumerate_count}
-use Rattle.std.specs.Slice.Iter.{chunks_exact_size}
+use Rattle.std.proofs.Common.{rules, ◌∙◌, arith}
+use Rattle.std.specs.Iterator.Adapters.{enumerate_count}
 use Rattle.fetch.proofs.Walks.{judged_here, judged_next, judged_end}
 use Rattle.fetch.proofs.judging.judge_records.Goals as goal
 

@@ -13,5 +13,5 @@ invariant-loop-i l =
       is_finite : (goal.iterator-loop-i).is_finite l.i-iterator;
       size : chunks_exact_size (enumerate_source l.i-iterator) ≡ l.list.each;
       same : judge_from l.set (enumerate_count l.i-iterator) (records_in l.list.each (chunks_exact_rest (enumerate_source l.i-iterator)))
-      ≡ judge_from l.set 0 (records_in l.list.each l.list.bytes.now);
+          ≡ judge_from l.set 0 (records_in l.list.each l.list.bytes.now);
     }
