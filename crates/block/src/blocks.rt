@@ -33,6 +33,7 @@ fn visit_each(
     let mut place = start;
     for (i, record) in list.records().enumerate() {
         let a = visit_accesses(record, file, log, place);
+        // Stays: document 01's form, a writer is lent the part of the buffer behind what was written so far.
         put_answer(&mut answers[ANSWER_BYTES * i..], a);
         if is_seven(a) {
             return Blocked {
@@ -49,6 +50,7 @@ fn visit_each(
 }
 
 // The whole call is refused 1 or 2 for its records, 3 for the file, 7 for the room of the answers, without saying how much they need.
+// Stays: its arguments are those of the C call, one by one.
 pub fn visit_block(
     records: &[u8],
     each: usize,
