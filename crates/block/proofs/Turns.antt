@@ -1,5 +1,5 @@
 -- A walk along the records of a block, turn by turn. Assumes nothing.
-use Prim.Native.Nat.{ℕ, suc, ◌+◌, ◌-◌, ◌*◌, ◌/◌, ◌≤◌, ◌<◌}
+use Prim.Native.Nat.{ℕ, suc, ◌+◌, ◌-◌, ◌*◌, ◌≤◌, ◌<◌}
 use native.Mathlib.Omega.{arith}
 use mathlib.Core.Path.{◌≡◌, refl, sym, ap, ◌∙◌}
 use mathlib.Core.List.{List, [], ◌∷◌, ◌++◌, append_assoc, append-nil}
@@ -10,12 +10,16 @@ use Rattle.laws.specs.Words.{little}
 use Rattle.laws.specs.Lists as lists
 use Rattle.laws.specs.Lending.{splice}
 use Rattle.laws.proofs.Lending.{part, back, part_is, back_is}
+use Rattle.registers.specs.Files.{file_of}
+use Rattle.registers.specs.Told.{file_refusal}
 use Rattle.registers.specs.declared.RegisterFile.{RegisterFile}
-use Rattle.records.proofs.Cuts.{from, from_next, from_end}
-use Rattle.definition.specs.Visits.{visit_under}
+use Rattle.records.specs.Lists.{records_in}
+use Rattle.records.proofs.Cuts.{records_next, records_end}
+use Rattle.definition.specs.Visits.{visit_under, visit_of}
 use Rattle.definition.specs.declared.Answer.{Answer}
 use Rattle.definition.specs.declared.Answer.TheVariants.{Done, Refused, Complex, Short}
 use Rattle.promises.proofs.Whole.{visit_inside}
+use Rattle.visiting.proofs.Calls.{good_file}
 use Rattle.block.specs.declared.blocks.Blocked.{Blocked}
 use Rattle.block.specs.Blocks.{is_seven, logged_by, Block, block_from, answer_bytes, four_of, fours_of, told_from}
 use Rattle.block.proofs.Lists.{splice_none, splice_long, splice_splice}
@@ -44,41 +48,40 @@ told_next start i answers a r room =
     let m : answer_bytes * (i + 1) ≡ answer_bytes * i + length (four_of a) = omega (arith, four_long a) in
     rw (n, m, splice_splice answers (answer_bytes * i) (four_of a) (fours_of r.answers) (omega (arith, four_long a)))
 
-module _ (each : ℕ) (x : List ℕ) (f : RegisterFile) (start : ℕ) where
-  -- what is told from record i on
-  abbrev pub tells_from : ℕ → List ℕ → ℕ → List ℕ → Blocked × (List ℕ × List ℕ)
-  tells_from i log place answers = told_from start answers i (block_from f (from each x i) log place)
-
-  -- record i as code cuts it out
-  abbrev pub cut_at : ℕ → List ℕ
-  cut_at i = take (i * each + each - i * each) (drop (i * each) x)
-
-  cut_is : (i : ℕ) → cut_at i ≡ take each (drop (i * each) x)
-  cut_is i = let n : i * each + each - i * each ≡ each = omega arith in ap (λ (k : ℕ). take k (drop (i * each) x)) n
-
-  -- what the visit of record i answered and left, and what the answers came back as
-  pub record Turn (i : ℕ) (log : List ℕ) (place : ℕ) (answers : List ℕ) (a : Answer) (log' answers' : List ℕ) : Type 0 where
-    pub visited : (a, log') ≡ visit_under (cut_at i) f log place
-    pub told : answers' ≡ four_of a ++ drop answer_bytes (part answers (answer_bytes * i))
+module _ (each : ℕ) (f : RegisterFile) (start : ℕ) where
+  -- what is told of the records of the bytes that are left, the first of which is number i
+  abbrev pub tells : ℕ → List ℕ → List ℕ → ℕ → List ℕ → Blocked × (List ℕ × List ℕ)
+  tells i left log place answers = told_from start answers i (block_from f (records_in each left) log place)
 
   -- all are visited
-  told_none : (i : ℕ) (log : List ℕ) (place : ℕ) (answers : List ℕ) → told_from start answers i (block_from f [] log place) ≡ (record { number = 0; count = i; written = place - start }, (log, answers))
+  told_none : (i : ℕ) (log : List ℕ) (place : ℕ) (answers : List ℕ) → told_from start answers i (block_from f [] log place) ≡ (record { count = i; written = place - start }, (log, answers))
   unfolding told_from block_from lists.each
   told_none i log place answers = let n : i + 0 ≡ i = omega arith in rw (n, splice_none answers (answer_bytes * i))
 
   pub over :
-      (i : ℕ) (log : List ℕ) (place : ℕ) (answers : List ℕ) → length x / each ≤ i
-      → tells_from i log place answers ≡ (record { number = 0; count = i; written = place - start }, (log, answers))
-  over i log place answers h =
-      ap (λ (bs : List (List ℕ)). told_from start answers i (block_from f bs log place)) (from_end each x i h) ∙ told_none i log place answers
+      (i : ℕ) (left log : List ℕ) (place : ℕ) (answers : List ℕ) → length left < each
+      → tells i left log place answers ≡ (record { count = i; written = place - start }, (log, answers))
+  over i left log place answers h =
+      ap (λ (bs : List (List ℕ)). told_from start answers i (block_from f bs log place)) (records_end each left h) ∙ told_none i log place answers
+
+-- what the visit of record x answered and left, and what the answers came back as
+pub record Turn (x : List ℕ) (f : RegisterFile) (i : ℕ) (log : List ℕ) (place : ℕ) (answers : List ℕ) (a : Answer) (log' answers' : List ℕ) : Type 0 where
+  pub visited : (a, log') ≡ visit_under x f log place
+  pub told : answers' ≡ four_of a ++ drop answer_bytes (part answers (answer_bytes * i))
+
+-- as code makes it, under a file that passed
+pub turned :
+    (x file : List ℕ) (i : ℕ) (log : List ℕ) (place : ℕ) (answers : List ℕ) {a : Answer} {log' answers' : List ℕ}
+    → file_refusal file ≡ 0 → (a, log') ≡ visit_of x file log place
+    → answers' ≡ four_of a ++ drop answer_bytes (part answers (answer_bytes * i))
+    → Turn x (file_of file) i log place answers a log' answers'
+turned x file i log place answers good visited told =
+    record { visited = visited ∙ sym (good_file x log place {f = file_of file} file refl good refl); told = told }
 
 module _
-    {each : ℕ} {x : List ℕ} {f : RegisterFile} {start i : ℕ} {log : List ℕ} {place : ℕ} {answers : List ℕ} {a : Answer} {log' answers' : List ℕ}
-    (t : Turn each x f start i log place answers a log' answers')
+    {x : List ℕ} {f : RegisterFile} {i : ℕ} {log : List ℕ} {place : ℕ} {answers : List ℕ} {a : Answer} {log' answers' : List ℕ}
+    (t : Turn x f i log place answers a log' answers')
   where
-    visit : visit_under (take each (drop (i * each) x)) f log place ≡ (a, log')
-    visit = rw (← cut_is each x f start i) (sym t.visited)
-
     answers_are : back answers (answer_bytes * i) answers' ≡ splice answers (answer_bytes * i) (four_of a)
     unfolding little
     answers_are = laid_back answers (answer_bytes * i) (four_of a) answers' t.told
@@ -87,53 +90,56 @@ module _
     answers_long h = ap length answers_are ∙ splice_long answers (answer_bytes * i) (four_of a) (omega (arith, four_long a))
 
     pub log_long : length log' ≡ length log
-    log_long =
-        ap (λ (o : Answer × List ℕ). length o.1) t.visited ∙ (single (cut_at each x f start i) f log place).long
+    log_long = ap (λ (o : Answer × List ℕ). length o.1) t.visited ∙ (single x f log place).long
 
     -- the place behind a log that was written lies in the buffer
     pub place_fits : (k : ℕ) → place < k → length log < k → place + logged_by a < k
     place_fits k p l = by a t.visited
       where
-        by : (a : Answer) → (a, log') ≡ visit_under (cut_at each x f start i) f log place → place + logged_by a < k
-        by (Done n) e = omega (arith, visit_inside false (cut_at each x f start i) f log place n log' (sym e))
+        by : (a : Answer) → (a, log') ≡ visit_under x f log place → place + logged_by a < k
+        by (Done n) e = omega (arith, visit_inside false x f log place n log' (sym e))
         by (Refused n) e = omega arith
         by (Complex o) e = omega arith
         by (Short n) e = omega arith
 
     -- the fold goes on
     block_next :
-        is_seven a ≡ false
-        → block_from f (take each (drop (i * each) x) ∷ from each x (i + 1)) log place
-        ≡ (let r = block_from f (from each x (i + 1)) log' (place + logged_by a) in
+        (bs : List (List ℕ)) → is_seven a ≡ false
+        → block_from f (x ∷ bs) log place
+        ≡ (let r = block_from f bs log' (place + logged_by a) in
         record { answers = a ∷ r.answers; count = suc r.count; buffer = r.buffer; place = r.place })
     unfolding block_from
-    block_next s = rw (visit, s)
-
-    pub goes_on_lem :
-        i < length x / each → is_seven a ≡ false → answer_bytes * i + answer_bytes ≤ length answers
-        → tells_from each x f start i log place answers ≡ tells_from each x f start (i + 1) log' (place + logged_by a) (back answers (answer_bytes * i) answers')
-    goes_on_lem h s room =
-        ap (λ (bs : List (List ℕ)). told_from start answers i (block_from f bs log place)) (from_next each x i h)
-        ∙ ap (told_from start answers i) (block_next s)
-        ∙ told_next start i answers a (block_from f (from each x (i + 1)) log' (place + logged_by a)) room
-        ∙ ap (λ (l : List ℕ). told_from start l (i + 1) (block_from f (from each x (i + 1)) log' (place + logged_by a))) (sym answers_are)
+    block_next bs s = rw (← t.visited, s)
 
     -- the fold ends with this answer
     block_last :
-        is_seven a ≡ true
-        → block_from f (take each (drop (i * each) x) ∷ from each x (i + 1)) log place ≡ record { answers = a ∷ []; count = 0; buffer = log'; place = place }
+        (bs : List (List ℕ)) → is_seven a ≡ true
+        → block_from f (x ∷ bs) log place ≡ record { answers = a ∷ []; count = 0; buffer = log'; place = place }
     unfolding block_from
-    block_last s = rw (visit, s)
+    block_last bs s = rw (← t.visited, s)
 
-    told_last : told_from start answers i (record { answers = a ∷ []; count = 0; buffer = log'; place = place }) ≡ (record { number = 0; count = i; written = place - start }, (log', splice answers (answer_bytes * i) (four_of a)))
+    told_last :
+        (start : ℕ)
+        → told_from start answers i (record { answers = a ∷ []; count = 0; buffer = log'; place = place })
+        ≡ (record { count = i; written = place - start }, (log', splice answers (answer_bytes * i) (four_of a)))
     unfolding told_from lists.each
-    told_last = let n : i + 0 ≡ i = omega arith in rw (n, append-nil (four_of a))
+    told_last start = let n : i + 0 ≡ i = omega arith in rw (n, append-nil (four_of a))
 
-    pub stops :
-        i < length x / each → is_seven a ≡ true
-        → tells_from each x f start i log place answers ≡ (record { number = 0; count = i; written = place - start }, (log', back answers (answer_bytes * i) answers'))
-    stops h s =
-        ap (λ (bs : List (List ℕ)). told_from start answers i (block_from f bs log place)) (from_next each x i h)
-        ∙ ap (told_from start answers i) (block_last s)
-        ∙ told_last
-        ∙ ap (λ (l : List ℕ). (record { number = 0; count = i; written = place - start }, (log', l))) (sym answers_are)
+    module _ (each start : ℕ) {left : List ℕ} (rest : List ℕ) (some : 0 < each) (long : length x ≡ each) (next : left ≡ x ++ rest) where
+      pub goes_on_lem :
+          is_seven a ≡ false → answer_bytes * i + answer_bytes ≤ length answers
+          → tells each f start i left log place answers ≡ tells each f start (i + 1) rest log' (place + logged_by a) (back answers (answer_bytes * i) answers')
+      goes_on_lem s room =
+          ap (λ (bs : List (List ℕ)). told_from start answers i (block_from f bs log place)) (records_next each x rest some long next)
+          ∙ ap (told_from start answers i) (block_next (records_in each rest) s)
+          ∙ told_next start i answers a (block_from f (records_in each rest) log' (place + logged_by a)) room
+          ∙ ap (λ (l : List ℕ). told_from start l (i + 1) (block_from f (records_in each rest) log' (place + logged_by a))) (sym answers_are)
+
+      pub stops :
+          is_seven a ≡ true
+          → tells each f start i left log place answers ≡ (record { count = i; written = place - start }, (log', back answers (answer_bytes * i) answers'))
+      stops s =
+          ap (λ (bs : List (List ℕ)). told_from start answers i (block_from f bs log place)) (records_next each x rest some long next)
+          ∙ ap (told_from start answers i) (block_last (records_in each rest) s)
+          ∙ told_last start
+          ∙ ap (λ (l : List ℕ). (record { count = i; written = place - start }, (log', l))) (sym answers_are)

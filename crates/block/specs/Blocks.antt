@@ -1,9 +1,11 @@
 -- A block of records under one register file: their logs behind one another in one buffer, and four bytes of answer for each in another.
-use Rattle.std.specs.Prelude.{ℕ, suc, ◌+◌, ◌-◌, ◌*◌, ◌/◌, List, [], ◌∷◌, Bool, not, cond, length, ltb, eqb}
+use Rattle.std.specs.Prelude.{ℕ, suc, ◌+◌, ◌-◌, ◌*◌, ◌/◌, List, [], ◌∷◌, Bool, not, cond, length, ltb, eqb, Result, Ok, Err}
 use Rattle.laws.specs.Words.{little}
 use Rattle.laws.specs.Tests.{first_of}
 use Rattle.laws.specs.Lists as lists
 use Rattle.laws.specs.Lending.{splice}
+use Rattle.laws.specs.Refusals.{refusal_named}
+use Rattle.laws.specs.declared.refusals.Refusal.{Refusal}
 use Rattle.registers.specs.Files.{file_of, is_file}
 use Rattle.registers.specs.declared.RegisterFile.{RegisterFile}
 use Rattle.records.specs.Lists.{list_refusal, records_in}
@@ -50,10 +52,10 @@ four_of a = number_of a ∷ count_of a ∷ little 2 (opcode_of a)
 abbrev pub fours_of : List Answer → List ℕ
 fours_of xs = lists.each four_of xs
 
--- what a block tells whose first record is number i: the call's answer, and both buffers
+-- what a block tells whose first record is number i: how many records and bytes of log, and both buffers
 unfoldable pub told_from : ℕ → List ℕ → ℕ → Block → Blocked × (List ℕ × List ℕ)
 told_from start answers i r =
-    (record { number = 0; count = i + r.count; written = r.place - start }, (r.buffer, splice answers (answer_bytes * i) (fours_of r.answers)))
+    (record { count = i + r.count; written = r.place - start }, (r.buffer, splice answers (answer_bytes * i) (fours_of r.answers)))
 
 -- the whole call's refusals, in their order: 1 or 2 for the records, 3 for the file, 7 for the answers' room
 unfoldable pub block_refusal : ℕ → List ℕ → List ℕ → List ℕ → ℕ
@@ -64,9 +66,22 @@ block_refusal each x f answers =
     ∷ (ltb (length answers) (answer_bytes * (length x / each)), 7)
     ∷ [])
 
+-- what a call answers that is not refused as a whole
+abbrev pub answering : Blocked × (List ℕ × List ℕ) → Result Blocked Refusal × (List ℕ × List ℕ)
+answering o = (Ok o.0, o.1)
+
 -- THE CALL over bytes. Refused as a whole, it writes nothing.
-unfoldable pub block_call : ℕ → List ℕ → List ℕ → List ℕ → ℕ → List ℕ → Blocked × (List ℕ × List ℕ)
+unfoldable pub block_call : ℕ → List ℕ → List ℕ → List ℕ → ℕ → List ℕ → Result Blocked Refusal × (List ℕ × List ℕ)
 block_call each x f log start answers =
     cond (eqb (block_refusal each x f answers) 0)
-    (told_from start answers 0 (block_from (file_of f) (records_in each x) log start))
-    (record { number = block_refusal each x f answers; count = 0; written = 0 }, (log, answers))
+    (answering (told_from start answers 0 (block_from (file_of f) (records_in each x) log start)))
+    (Err (refusal_named (block_refusal each x f answers)), (log, answers))
+
+-- the count and the bytes of log that a call answers: refused as a whole, it answers 0
+abbrev pub block_count : Result Blocked Refusal → ℕ
+block_count (Ok b) = b.count
+block_count (Err r) = 0
+
+abbrev pub block_written : Result Blocked Refusal → ℕ
+block_written (Ok b) = b.written
+block_written (Err r) = 0

@@ -1,5 +1,6 @@
 -- WHAT IS PROMISED of a block of records, each statement after its sentence. proofs/Proved.antt proves them all; nothing is assumed.
-use Rattle.std.specs.Prelude.{ℕ, suc, ◌+◌, ◌*◌, ◌≤◌, ◌≡◌, List, [], ◌∷◌, true, false, length, take, drop}
+use Rattle.std.specs.Prelude.{ℕ, suc, ◌+◌, ◌*◌, ◌≤◌, ◌≡◌, List, [], ◌∷◌, true, false, length, take, drop, Err}
+use Rattle.laws.specs.Refusals.{refusal_named, refused_by}
 use Rattle.registers.specs.Files.{file_of}
 use Rattle.registers.specs.declared.RegisterFile.{RegisterFile}
 use Rattle.records.specs.Lists.{records_in}
@@ -11,7 +12,7 @@ use Rattle.definition.specs.declared.Answer.TheVariants.{Done}
 use Rattle.promises.specs.Calls.{Refusal}
 use Rattle.promises.specs.Refinement.{Extends, RefinesAll}
 use Rattle.promises.specs.Rows.{Table}
-use Rattle.block.specs.Blocks.{is_seven, logged_by, block_from, answer_bytes, fours_of, block_refusal, block_call}
+use Rattle.block.specs.Blocks.{is_seven, logged_by, block_from, answer_bytes, fours_of, block_refusal, block_call, block_count, block_written}
 use Rattle.block.specs.Rows.{row_of, rows}
 
 -- the bytes of log that visits wrote
@@ -79,14 +80,15 @@ abbrev pub RefusedBlockLeaves : Type 0
 RefusedBlockLeaves =
     (each : ℕ) (x f log : List ℕ) (start : ℕ) (answers : List ℕ)
     → (block_refusal each x f answers ≡ 0 → ⊥)
-    → block_call each x f log start answers ≡ (record { number = block_refusal each x f answers; count = 0; written = 0 }, (log, answers))
+    → (block_call each x f log start answers ≡ (Err (refusal_named (block_refusal each x f answers)), (log, answers)))
+    × (refused_by (block_call each x f log start answers).0 ≡ block_refusal each x f answers)
 
 -- FOUR BYTES EACH. A call that is not refused as a whole is the block of its records; it changes four answer bytes for each record that it
 -- answered, and no other.
 pub record Called (each : ℕ) (x f log : List ℕ) (start : ℕ) (answers : List ℕ) : Type 0 where
-  pub number : (block_call each x f log start answers).0.number ≡ 0
-  pub count : (block_call each x f log start answers).0.count ≡ (block_from (file_of f) (records_in each x) log start).count
-  pub written : start + (block_call each x f log start answers).0.written ≡ (block_from (file_of f) (records_in each x) log start).place
+  pub number : refused_by (block_call each x f log start answers).0 ≡ 0
+  pub count : block_count (block_call each x f log start answers).0 ≡ (block_from (file_of f) (records_in each x) log start).count
+  pub written : start + block_written (block_call each x f log start answers).0 ≡ (block_from (file_of f) (records_in each x) log start).place
   pub buffer : (block_call each x f log start answers).1.0 ≡ (block_from (file_of f) (records_in each x) log start).buffer
   pub long : length (block_call each x f log start answers).1.1 ≡ length answers
   pub fours :

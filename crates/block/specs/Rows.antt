@@ -1,7 +1,9 @@
 -- Rows of a block: records of a length under a file, over so many bytes of log from a start on, and so many bytes of answers, all 0xEE. What
 -- the call answers, and both buffers.
-use Rattle.std.specs.Prelude.{ℕ, List, [], ◌∷◌, ◌++◌, set, replicate}
+use Rattle.std.specs.Prelude.{ℕ, List, [], ◌∷◌, ◌++◌, set, replicate, Result, Ok, Err}
 use Rattle.laws.specs.Lists.{flat}
+use Rattle.laws.specs.declared.refusals.Refusal.{Refusal}
+use Rattle.laws.specs.declared.refusals.Refusal.TheVariants.{Malformed, Outside, BadFile, NoRoom}
 use Rattle.promises.specs.Bench.{P2, P2_file, P2_log}
 use Rattle.promises.specs.Rows.{Patch, record_with, file_knowing, put, opcode, count, specs, behavior, size, RegRRR, Disp, buffer, segment, everyday}
 use Rattle.block.specs.declared.blocks.Blocked.{Blocked}
@@ -19,10 +21,13 @@ abbrev pub block : ℕ → List (List ℕ) → List Patch → ℕ → ℕ → �
 block e rs f n s a = record { each = e; records = flat rs; file = f; room = n; start = s; answers = a }
 
 abbrev pub Row : Type 0
-Row = Blocked × (List ℕ × List ℕ)
+Row = Result Blocked Refusal × (List ℕ × List ℕ)
 
-abbrev pub said : ℕ → ℕ → ℕ → List ℕ → List ℕ → Row
-said number count written log answers = (record { number = number; count = count; written = written }, (log, answers))
+abbrev pub said : ℕ → ℕ → List ℕ → List ℕ → Row
+said count written log answers = (Ok (record { count = count; written = written }), (log, answers))
+
+abbrev pub refused : Refusal → List ℕ → List ℕ → Row
+refused r log answers = (Err r, (log, answers))
 
 abbrev pub row_of : Asked → Row
 row_of q = block_call q.each q.records (file_knowing q.file) (buffer q.room) q.start (buffer q.answers)
@@ -63,47 +68,47 @@ NOT_log = 1 ∷ 0 ∷ 0 ∷ 2 ∷ 0 ∷ 0 ∷ []
 unfoldable pub rows : List (Asked × Row)
 rows =
     -- the first 7 ends the call: it is answered with the bytes that it needs, and not counted; what is behind stays
-    (block 40 (ONE ∷ TWO ∷ ONE ∷ []) P2_file 10 0 12, said 0 1 3 (ONE_log ++ buffer 7) (0 ∷ 3 ∷ 0 ∷ 0 ∷ 7 ∷ 32 ∷ 0 ∷ 0 ∷ buffer 4))
+    (block 40 (ONE ∷ TWO ∷ ONE ∷ []) P2_file 10 0 12, said 1 3 (ONE_log ++ buffer 7) (0 ∷ 3 ∷ 0 ∷ 0 ∷ 7 ∷ 32 ∷ 0 ∷ 0 ∷ buffer 4))
     -- one log behind the other, from the start on
     ∷ (
       block 40 (ONE ∷ TWO ∷ ONE ∷ []) P2_file 41 2 13,
-      said 0 3 38 (buffer 2 ++ (ONE_log ++ (P2_log ++ (ONE_log ++ buffer 1)))) (0 ∷ 3 ∷ 0 ∷ 0 ∷ 0 ∷ 32 ∷ 0 ∷ 0 ∷ 0 ∷ 3 ∷ 0 ∷ 0 ∷ buffer 1),
+      said 3 38 (buffer 2 ++ (ONE_log ++ (P2_log ++ (ONE_log ++ buffer 1)))) (0 ∷ 3 ∷ 0 ∷ 0 ∷ 0 ∷ 32 ∷ 0 ∷ 0 ∷ 0 ∷ 3 ∷ 0 ∷ 0 ∷ buffer 1),
     )
     -- a record that is refused writes no log and the next goes on, without a gap; the opcode is little-endian
     ∷ (
       block 40 (ONE ∷ complex ∷ outside ∷ nameless ∷ sizeless ∷ ONE ∷ []) [] 7 0 24,
-      said 0 6 6 (ONE_log ++ (ONE_log ++ buffer 1))
+      said 6 6 (ONE_log ++ (ONE_log ++ buffer 1))
           (0 ∷ 3 ∷ 0 ∷ 0 ∷ 4 ∷ 0 ∷ 0x34 ∷ 0x12 ∷ 2 ∷ 0 ∷ 0 ∷ 0 ∷ 5 ∷ 0 ∷ 0 ∷ 0 ∷ 6 ∷ 0 ∷ 0 ∷ 0 ∷ 0 ∷ 3 ∷ 0 ∷ 0 ∷ []),
     )
     -- a record of another kind than its length says is that record's own 1
-    ∷ (block 40 (set ONE 0 0x11 ∷ ONE ∷ []) [] 3 0 8, said 0 2 3 ONE_log (1 ∷ 0 ∷ 0 ∷ 0 ∷ 0 ∷ 3 ∷ 0 ∷ 0 ∷ []))
+    ∷ (block 40 (set ONE 0 0x11 ∷ ONE ∷ []) [] 3 0 8, said 2 3 ONE_log (1 ∷ 0 ∷ 0 ∷ 0 ∷ 0 ∷ 3 ∷ 0 ∷ 0 ∷ []))
     -- records that name a segment: 41 bytes each, and of another kind than that their own 1
     ∷ (
       block 41 (record_with (specs (18 ∷ []) ∷ segment 1 ∷ []) ∷ set (record_with (segment 1 ∷ [])) 0 0x10 ∷ []) [] 8 0 8,
-      said 0 2 8 (1 ∷ 13 ∷ 0 ∷ 1 ∷ 0 ∷ 0 ∷ 5 ∷ 8 ∷ []) (0 ∷ 8 ∷ 0 ∷ 0 ∷ 1 ∷ 0 ∷ 0 ∷ 0 ∷ []),
+      said 2 8 (1 ∷ 13 ∷ 0 ∷ 1 ∷ 0 ∷ 0 ∷ 5 ∷ 8 ∷ []) (0 ∷ 8 ∷ 0 ∷ 0 ∷ 1 ∷ 0 ∷ 0 ∷ 0 ∷ []),
     )
     -- records without a digest: 36 bytes each, NOT of a register and then an opcode that has none, whose 9 goes on like 2
     ∷ (
       block 36 (not_rax 115 ∷ not_rax 119 ∷ not_rax 115 ∷ []) [] 12 0 12,
-      said 0 3 12 (NOT_log ++ NOT_log) (0 ∷ 6 ∷ 0 ∷ 0 ∷ 9 ∷ 0 ∷ 0 ∷ 0 ∷ 0 ∷ 6 ∷ 0 ∷ 0 ∷ []),
+      said 3 12 (NOT_log ++ NOT_log) (0 ∷ 6 ∷ 0 ∷ 0 ∷ 9 ∷ 0 ∷ 0 ∷ 0 ∷ 0 ∷ 6 ∷ 0 ∷ 0 ∷ []),
     )
     -- a start past the end: a refused record goes on, and the first accepted one gets 7, even with an empty log
     ∷ (
       block 40 (outside ∷ record_with [] ∷ ONE ∷ []) [] 3 4 12,
-      said 0 1 0 (buffer 3) (2 ∷ 0 ∷ 0 ∷ 0 ∷ 7 ∷ 0 ∷ 0 ∷ 0 ∷ buffer 4),
+      said 1 0 (buffer 3) (2 ∷ 0 ∷ 0 ∷ 0 ∷ 7 ∷ 0 ∷ 0 ∷ 0 ∷ buffer 4),
     )
     -- at the end an empty log has room
-    ∷ (block 40 (record_with [] ∷ []) [] 3 3 4, said 0 1 0 (buffer 3) (0 ∷ 0 ∷ 0 ∷ 0 ∷ []))
+    ∷ (block 40 (record_with [] ∷ []) [] 3 3 4, said 1 0 (buffer 3) (0 ∷ 0 ∷ 0 ∷ 0 ∷ []))
     -- no records
-    ∷ (block 40 [] [] 3 9 0, said 0 0 0 (buffer 3) [])
+    ∷ (block 40 [] [] 3 9 0, said 0 0 (buffer 3) [])
     -- the whole call: 1 for the length of a record, of no bytes too, and for a part of a record; 2 for more than 1,000 records; 3 for a
     -- bad file; 7 for the answers' room; each before the next
-    ∷ (block 39 [] bad_file 3 0 0, said 1 0 0 (buffer 3) [])
-    ∷ (block 42 [] bad_file 3 0 0, said 1 0 0 (buffer 3) [])
-    ∷ (block 0 [] bad_file 3 0 0, said 1 0 0 (buffer 3) [])
-    ∷ (block 40 (replicate 40041 0 ∷ []) bad_file 3 0 0, said 1 0 0 (buffer 3) [])
-    ∷ (block 40 (replicate 40040 0 ∷ []) bad_file 3 0 0, said 2 0 0 (buffer 3) [])
-    ∷ (block 40 (replicate 40000 0 ∷ []) bad_file 3 0 0, said 3 0 0 (buffer 3) [])
-    ∷ (block 40 [] bad_file 3 0 0, said 3 0 0 (buffer 3) [])
-    ∷ (block 40 (ONE ∷ ONE ∷ []) [] 6 0 7, said 7 0 0 (buffer 6) (buffer 7))
+    ∷ (block 39 [] bad_file 3 0 0, refused Malformed (buffer 3) [])
+    ∷ (block 42 [] bad_file 3 0 0, refused Malformed (buffer 3) [])
+    ∷ (block 0 [] bad_file 3 0 0, refused Malformed (buffer 3) [])
+    ∷ (block 40 (replicate 40041 0 ∷ []) bad_file 3 0 0, refused Malformed (buffer 3) [])
+    ∷ (block 40 (replicate 40040 0 ∷ []) bad_file 3 0 0, refused Outside (buffer 3) [])
+    ∷ (block 40 (replicate 40000 0 ∷ []) bad_file 3 0 0, refused BadFile (buffer 3) [])
+    ∷ (block 40 [] bad_file 3 0 0, refused BadFile (buffer 3) [])
+    ∷ (block 40 (ONE ∷ ONE ∷ []) [] 6 0 7, refused (NoRoom 0) (buffer 6) (buffer 7))
     ∷ []

@@ -1,15 +1,19 @@
 // A block's answer as a number: each part at its bit.
 ghost use Rattle.std.specs.Prelude.{◌≡◌, ◌^◌, ◌<◌};
-ghost use Rattle.block.specs.Blocks.{block_call};
+ghost use Rattle.block.specs.Blocks.{block_call, block_count, block_written};
 ghost use Rattle.block.specs.Bits.{block_bits, in_bits};
 
 use crate::blocks::{Blocked, visit_block};
+use laws::Refusal;
 
-fn block_bits(b: Blocked) -> u64
-    requires { (b.count < 2 ^ 16) × (b.written < 2 ^ 32) }
-    ensures { result ≡ block_bits b }
+fn block_bits(a: Result<Blocked, Refusal>) -> u64
+    requires { (block_count a < 2 ^ 16) × (block_written a < 2 ^ 32) }
+    ensures { result ≡ block_bits a }
 {
-    (b.number as u64) + (b.count as u64) * 0x100 + (b.written as u64) * 0x1_0000_0000
+    match a {
+        Ok(b) => (b.count as u64) * 0x100 + (b.written as u64) * 0x1_0000_0000,
+        Err(refusal) => u64::from(u8::from(refusal)),
+    }
 }
 
 pub fn answer_block(

@@ -14,10 +14,9 @@ pub(crate) fn is_seven(a: Answer) -> bool
     ensures { result ≡ is_seven a }
 {
     match a {
-        Answer::Done(_) => false,
         Answer::Refused(number) => number == 7,
-        Answer::Complex(_) => false,
         Answer::Short(_) => true,
+        _ => false,
     }
 }
 
@@ -27,9 +26,7 @@ pub(crate) fn logged_by(a: Answer) -> usize
 {
     match a {
         Answer::Done(n) => n,
-        Answer::Refused(_) => 0,
-        Answer::Complex(_) => 0,
-        Answer::Short(_) => 0,
+        _ => 0,
     }
 }
 

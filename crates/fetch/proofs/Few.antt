@@ -7,26 +7,27 @@ use mathlib.Core.Bool.{Bool, true, false, cond}
 use lib.ListN.{length}
 use lib.Dec.{eqb}
 use borrow.Author.Tests.{eqb-true}
+use Rattle.std.proofs.Common.{Ok, Err}
+use Rattle.laws.specs.Refusals.{refusal_named}
 use Rattle.records.specs.Lists.{most_records, list_refusal, records_in}
 use Rattle.records.proofs.Cuts.{cut_length, listed}
 use Rattle.fetching.specs.Judging.{judge, judge_call}
-use Rattle.fetching.specs.declared.Judgement.TheVariants.{Refused, Lacking}
+use Rattle.fetching.specs.declared.Judgement.TheVariants.{Lacking}
 use Rattle.fetching.proofs.Named.{judge_names}
-
-refused_not : (r i k : ℕ) → Refused r ≡ Lacking i k → ⊥
-refused_not r i k e = let z : ◌≡◌ {A = ℕ} 0 1 = cc in omega arith
 
 module _ (b : List ℕ) (n v i k : ℕ) where
   in_list : judge v (records_in n b) ≡ Lacking i k → i < length b / n
   unfolding records_in
   in_list e = let h = (judge_names v (records_in n b) i k e).0 in rw (cut_length (length b / n) n b) at h
 
-  pub named_few : judge_call b n v ≡ Lacking i k → i < most_records
+  pub named_few : judge_call b n v ≡ Ok (Lacking i k) → i < most_records
   unfolding judge_call
   named_few e = by (eqb (list_refusal (length b) n) 0) refl e
     where
       by :
-          (t : Bool) → eqb (list_refusal (length b) n) 0 ≡ t → cond t (judge v (records_in n b)) (Refused (list_refusal (length b) n)) ≡ Lacking i k
+          (t : Bool) → eqb (list_refusal (length b) n) 0 ≡ t → cond t (Ok (judge v (records_in n b))) (Err (refusal_named (list_refusal (length b) n))) ≡ Ok (Lacking i k)
           → i < most_records
-      by true h e = omega (arith, in_list e, (listed (length b) n (eqb-true (list_refusal (length b) n) 0 h)).few)
-      by false h e = absurd (refused_not (list_refusal (length b) n) i k e)
+      by true h e =
+          let same : judge v (records_in n b) ≡ Lacking i k = cc in
+          omega (arith, in_list same, (listed (length b) n (eqb-true (list_refusal (length b) n) 0 h)).few)
+      by false h e = absurd (cc)

@@ -4,6 +4,7 @@ use mathlib.Core.Path.{◌≡◌, refl, ap, ap₂, ◌∙◌}
 use mathlib.Core.List.{List, [], ◌∷◌, ◌++◌, map, append-nil}
 use mathlib.Core.Bool.{Bool, true, false, not, cond, ◌&&◌}
 use lib.ListN.{length, drop, drop_of_length-le}
+use borrow.Author.Tests.{eq-eqb, ne_eqb}
 use Rattle.laws.specs.Lists.{each, flat}
 use Rattle.laws.proofs.Lists.{each_append}
 use Rattle.access.specs.Accesses.{reading, writing}
@@ -165,6 +166,21 @@ module _ (x : Record) where
         each_same (λ (o : Operand). each step_needs (operand_steps x o)) (operand_needs x) operand_needs_lem (operands_of x),
         append-nil (each (operand_needs x) (operands_of x)),
       )
+
+-- What the code joins where it tests whether a read is memory's
+module _ (x : Record) (read : Bool) (ks : List ℕ) where
+  pub is_loaded : read ≡ true → (x.opcode ≡ 28 → ⊥) → cond (loads_at x read) ks [] ≡ ks
+  is_loaded e ne = rw (e, ne_eqb x.opcode 28 ne)
+
+  pub lea_loads : x.opcode ≡ 28 → cond (loads_at x read) ks [] ≡ []
+  lea_loads e = rw (eq-eqb x.opcode 28 e) (by read)
+    where
+      by : (r : Bool) → cond (r && false) ks [] ≡ []
+      by true = refl
+      by false = refl
+
+  pub not_loaded : read ≡ false → cond (loads_at x read) ks [] ≡ []
+  not_loaded e = rw e
 
 -- What the code joins, part by part
 module _ (set : ℕ) (x : Record) {r t : ℕ} where

@@ -5,7 +5,7 @@ use mathlib.Core.List.{List, [], ◌∷◌}
 use mathlib.Core.Bool.{Bool, true, false, not}
 use lib.ListN.{replicate, set}
 use lib.Dec.{eqb}
-use borrow.Author.Tests.{ne_eqb, eq-eqb, eqb-true, eqb-false}
+use borrow.Author.Tests.{ne_eqb, eq-eqb, eqb-true, eqb-false, not-true, not-false}
 use Rattle.laws.specs.Words.{number_at}
 use Rattle.laws.specs.Lists.{each}
 use Rattle.sets.specs.Sets.{joined}
@@ -54,6 +54,13 @@ module _ (b : List ℕ) where
   all_needed : refusal_alone b ≡ 0 → needs_of b ≡ each step_needs (steps_of (fixed_record b))
   unfolding needs_of
   all_needed e = rw (eq-eqb (refusal_alone b) 0 e)
+
+  -- by the test that code makes
+  pub is_refused_lem : not (eqb (refusal_alone b) 0) ≡ true → refusal_alone b ≡ 0 → ⊥
+  is_refused_lem t = eqb-false (refusal_alone b) 0 (not-true (eqb (refusal_alone b) 0) t)
+
+  pub not_refused : not (eqb (refusal_alone b) 0) ≡ false → refusal_alone b ≡ 0
+  not_refused t = eqb-true (refusal_alone b) 0 (not-false (eqb (refusal_alone b) 0) t)
 
   -- the record's own refusals come first
   pub record_passes : refusal_alone b ≡ 0 → record_refusal b ≡ 0

@@ -1,5 +1,6 @@
 -- The needs of a record by its parts, as the code goes through them: no promise to a caller rests on these.
-use Rattle.std.specs.Prelude.{ℕ, List, [], ◌∷◌, Bool, false, not, cond, ◌&&◌}
+use Rattle.std.specs.Prelude.{ℕ, List, [], ◌∷◌, Bool, false, not, cond, ◌&&◌, ltb, Option, Some, None}
+use Rattle.laws.specs.Words.{bit}
 use Rattle.laws.specs.Lists.{each, flat}
 use Rattle.access.specs.Accesses.{reading, writing}
 use Rattle.implicit.specs.Lists.{implicit_of}
@@ -13,7 +14,7 @@ use Rattle.definition.specs.Addresses.{operand_address, segment_of}
 use Rattle.definition.specs.Steps.{is_lea}
 use Rattle.definition.specs.declared.Shape.{Shape}
 use Rattle.definition.specs.declared.Shape.TheVariants.{Nothing, Register, Fourth, Immediate, Memory}
-use Rattle.fetching.specs.Needs.{slots_of, access_needs}
+use Rattle.fetching.specs.Needs.{held_registers, slots_of, access_needs}
 
 -- a memory spec has an index
 unfoldable pub shape_index : Shape → Bool
@@ -65,3 +66,11 @@ entry_needs entries.End = []
 
 unfoldable pub list_needs : ℕ → List ℕ
 list_needs l = each entry_needs (implicit_of l)
+
+-- a bit that is needed and not in the set
+abbrev pub lacking : ℕ → ℕ → ℕ → Bool
+lacking needs set k = bit needs k && not (bit set k)
+
+-- a slot of a file, none for what lies nowhere
+abbrev pub held_slot : ℕ → Option ℕ
+held_slot k = cond (ltb k held_registers) (Some k) None

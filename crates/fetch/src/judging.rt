@@ -1,12 +1,13 @@
 // The judge and the proposer, over the bytes of a list of records.
-ghost use Rattle.std.specs.Prelude.{◌≡◌, not, ◌&&◌, ◌<◌, length};
-ghost use Rattle.laws.specs.Words.{bit};
-ghost use Rattle.records.specs.Lists.{list_refusal, records_in};
-ghost use Rattle.fetching.specs.Judging.{set_bits, first_from, judge_from, proposed, judge_call, propose_call};
+ghost use Rattle.std.specs.Prelude.{◌≡◌, ℕ, true, false, ◌<◌, MatchOption};
+ghost use Rattle.records.specs.Lists.{records_in};
+ghost use Rattle.fetching.specs.Judging.{set_bits, judge_from, proposed, judge_call, propose_call};
+ghost use Rattle.fetch.specs.Parts.{lacking};
 
 use crate::needs::with_record;
-use fetching::{Judgement, Proposal};
-use records::list_refusal;
+use fetching::Judgement;
+use laws::Refusal;
+use records::RecordList;
 
 // A set has so many bits.
 const SET_BITS: u8 = 19;
@@ -14,78 +15,58 @@ const SET_BITS: u8 = 19;
 // Two to the power of that.
 const SETS: u32 = 0x8_0000;
 
+// A bit that is needed and not in the set.
 fn is_lacking(needs: u32, set: u32, k: u8) -> bool
     requires { k < set_bits }
-    ensures { result ≡ bit needs k && not (bit set k) }
+    ensures { result ≡ lacking needs set k }
 {
-    sets::has(needs, k) & !sets::has(set, k)
+    sets::has(needs, k) && !sets::has(set, k)
 }
 
-// The lowest bit that is needed and not in the set; the number of bits where none is.
-fn first_lacking(needs: u32, set: u32) -> u8
-    ensures { result ≡ first_from (λ k. bit needs k && not (bit set k)) 0 set_bits }
+// The lowest of these.
+fn first_lacking(needs: u32, set: u32) -> Option<u8>
+    ensures { MatchOption result
+        ((k : ℕ) → k < set_bits → lacking needs set k ≡ false)
+        (λ k. (k < set_bits) × (lacking needs set k ≡ true) × ((j : ℕ) → j < k → lacking needs set j ≡ false)) }
 {
-    let mut k: u8 = 0;
-    while k < SET_BITS {
-        if is_lacking(needs, set, k) {
-            return k;
-        }
-        k = k + 1;
-    }
-    k
+    (0..SET_BITS).find(|k| is_lacking(needs, set, *k))
 }
 
-fn judge_records(bytes: &[u8], each: usize, set: u32) -> Judgement
-    requires { list_refusal (length bytes.now) each ≡ 0 }
-    ensures { result ≡ judge_from set 0 (records_in each bytes.now) }
+fn judge_records(list: RecordList<'_>, set: u32) -> Judgement
+    ensures { result ≡ judge_from set 0 (records_in list.entry.each list.entry.bytes.now) }
 {
-    let count = bytes.len() / each;
-    let mut i = 0;
-    while i < count {
-        let at = i * each;
-        let k = first_lacking(with_record(0, &bytes[at..at + each]), set);
-        if k < SET_BITS {
+    for (i, record) in list.records().enumerate() {
+        if let Some(k) = first_lacking(with_record(0, record), set) {
             return Judgement::Lacking(i, k);
         }
-        i = i + 1;
     }
     Judgement::Accepted
 }
 
-fn propose_records(bytes: &[u8], each: usize) -> u32
-    requires { list_refusal (length bytes.now) each ≡ 0 }
-    ensures { result ≡ proposed (records_in each bytes.now) }
+fn propose_records(list: RecordList<'_>) -> u32
+    ensures { result ≡ proposed (records_in list.entry.each list.entry.bytes.now) }
 {
-    let count = bytes.len() / each;
     let mut set = 0;
-    let mut i = 0;
-    while i < count {
-        let at = i * each;
-        set = with_record(set, &bytes[at..at + each]);
-        i = i + 1;
+    for record in list.records() {
+        set = with_record(set, record);
     }
     set
 }
 
-pub fn judge(bytes: &[u8], each: usize, set: u32) -> Judgement
+pub fn judge(bytes: &[u8], each: usize, set: u32) -> Result<Judgement, Refusal>
     ensures { result ≡ judge_call bytes.now each set }
 {
-    let number = list_refusal(bytes.len(), each);
-    if number != 0 {
-        return Judgement::Refused(number);
-    }
+    let list = RecordList::new(bytes, each)?;
     if set < SETS {
-        return judge_records(bytes, each, set);
+        Ok(judge_records(list, set))
+    } else {
+        Ok(Judgement::NoSuchBit)
     }
-    Judgement::NoSuchBit
 }
 
-pub fn propose(bytes: &[u8], each: usize) -> Proposal
+pub fn propose(bytes: &[u8], each: usize) -> Result<u32, Refusal>
     ensures { result ≡ propose_call bytes.now each }
 {
-    let number = list_refusal(bytes.len(), each);
-    if number != 0 {
-        return Proposal::Refused(number);
-    }
-    Proposal::Done(propose_records(bytes, each))
+    let list = RecordList::new(bytes, each)?;
+    Ok(propose_records(list))
 }

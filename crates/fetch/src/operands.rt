@@ -57,43 +57,29 @@ fn with_access(set: u32, x: Record, spec: u8) -> u32
     with_term(with_term(with_segment(set, segment), base), index)
 }
 
-fn with_access_if(set: u32, on: bool, x: Record, spec: u8) -> u32
-    ensures { result ≡ joined set (cond on (shape_needs x (shape_of spec)) []) }
-{
-    if on { with_access(set, x, spec) } else { set }
-}
-
-// Whether an operand's read reads memory, where its spec is memory: LEA's does not.
-fn loads(x: Record, read: bool) -> bool
-    ensures { result ≡ loads_at x read }
-{
-    read && x.opcode != LEA
-}
-
+// LEA's read reads no memory.
 fn with_operand(set: u32, x: Record, i: u8) -> u32
     ensures { result ≡ joined set (operand_needs x (operand_at x i)) }
 {
-    let digest = x.digest;
-    let access = digest.operand_access(i);
+    let access = x.digest.operand_access(i);
     let spec = x.spec(i);
-    let loading = loads(x, access.is_read());
-    let loaded = with_access_if(set, loading, x, spec);
-    with_access_if(loaded, access.is_write(), x, spec)
+    let mut joined = set;
+    if access.is_read() && x.opcode != LEA {
+        joined = with_access(joined, x, spec);
+    }
+    if access.is_write() {
+        joined = with_access(joined, x, spec);
+    }
+    joined
 }
 
 // Those below count, of which there are at most four.
 pub(crate) fn with_operands(set: u32, x: Record) -> u32
     ensures { result ≡ joined set (each (operand_needs x) (operands_of x)) }
 {
-    let count = x.count;
     let mut joined = set;
-    let mut i: u8 = 0;
-    while i < 4 {
-        if count <= i {
-            return joined;
-        }
+    for i in 0..x.count.min(4) {
         joined = with_operand(joined, x, i);
-        i = i + 1;
     }
     joined
 }

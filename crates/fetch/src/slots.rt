@@ -1,18 +1,16 @@
 // The full register that a register is part of, joined to a set by its known bit.
-ghost use Rattle.std.specs.Prelude.{◌≡◌, cond, ltb};
+ghost use Rattle.std.specs.Prelude.{◌≡◌, cond, ltb, Some, None};
 ghost use Rattle.laws.specs.Lists.{each};
 ghost use Rattle.sets.specs.Sets.{joined};
 ghost use Rattle.registers.specs.Banks.{reg};
 ghost use Rattle.registers.specs.Files.{part_of};
 ghost use Rattle.definition.specs.Addresses.{term_registers, segment_registers};
-ghost use Rattle.fetching.specs.Needs.{held_registers, slots_of};
+ghost use Rattle.fetching.specs.Needs.{slots_of};
+ghost use Rattle.fetch.specs.Parts.{held_slot};
 
 use definition::Term;
 use registers::RegSpec;
 use registers::names::{FS, GS};
-
-// How many registers a file holds, and so the slot of a register that is in none of them.
-const HELD: u8 = 19;
 
 const GENERAL: u8 = 16;
 
@@ -22,51 +20,55 @@ const RIP: u8 = 16;
 const FS_BASE: u8 = 17;
 
 // The slot of a register whose bank has so many.
-fn slot_below(number: u8, most: u8, slot: u8) -> u8
-    ensures { result ≡ cond (ltb number most) slot held_registers }
+fn slot_below(number: u8, most: u8, slot: u8) -> Option<u8>
+    ensures { result ≡ cond (ltb number most) (Some slot) None }
 {
-    if number < most { slot } else { HELD }
+    if number < most { Some(slot) } else { None }
 }
 
 // The low bytes of rax to rbx, and then the bytes above them: ah is rax.
-fn byte_slot(number: u8) -> u8
-    ensures { result ≡ (part_of (reg 4 number)).slot }
+#[tactic(auto, unfolding(registers::specs::Files::part_of, registers::specs::Banks::is_logged))]
+fn byte_slot(number: u8) -> Option<u8>
+    ensures { result ≡ held_slot (part_of (reg 4 number)).slot }
 {
-    if number < 4 {
-        return number;
+    match number {
+        0..=3 => Some(number),
+        4..=7 => Some(number - 4),
+        _ => None,
     }
-    if number < 8 { number - 4 } else { HELD }
 }
 
 // The bases of fs and gs.
-fn base_slot(number: u8) -> u8
-    ensures { result ≡ (part_of (reg 13 number)).slot }
+#[tactic(auto, unfolding(registers::specs::Files::part_of, registers::specs::Banks::is_logged))]
+fn base_slot(number: u8) -> Option<u8>
+    ensures { result ≡ held_slot (part_of (reg 13 number)).slot }
 {
-    if number < 2 { FS_BASE + number } else { HELD }
-}
-
-fn slot_of(y: RegSpec) -> u8
-    ensures { result ≡ (part_of y).slot }
-{
-    let bank = y.bank;
-    let number = y.number;
-    match bank {
-        0..=3 => slot_below(number, GENERAL, number),
-        4 => byte_slot(number),
-        9..=10 => slot_below(number, 1, RIP),
-        13 => base_slot(number),
-        _ => HELD,
+    if number < 2 {
+        Some(FS_BASE + number)
+    } else {
+        None
     }
 }
 
-fn with_register(set: u32, y: RegSpec) -> u32
+// The slot of a register in a file; none for one that is in no file.
+fn slot_of(y: RegSpec) -> Option<u8>
+    ensures { result ≡ held_slot (part_of y).slot }
+{
+    match y.bank {
+        0..=3 => slot_below(y.number, GENERAL, y.number),
+        4 => byte_slot(y.number),
+        9..=10 => slot_below(y.number, 1, RIP),
+        13 => base_slot(y.number),
+        _ => None,
+    }
+}
+
+pub(crate) fn with_register(set: u32, y: RegSpec) -> u32
     ensures { result ≡ joined set (slots_of y) }
 {
-    let slot = slot_of(y);
-    if slot < HELD {
-        sets::with(set, slot)
-    } else {
-        set
+    match slot_of(y) {
+        Some(slot) => sets::with(set, slot),
+        None => set,
     }
 }
 

@@ -1,7 +1,9 @@
 -- The judge of a set of registers for a list of records, and the proposer of one.
-use Rattle.std.specs.Prelude.{ℕ, zero, suc, ◌+◌, ◌^◌, List, [], ◌∷◌, Bool, true, not, cond, ◌&&◌, length, replicate, ltb, eqb}
+use Rattle.std.specs.Prelude.{ℕ, zero, suc, ◌+◌, ◌^◌, List, [], ◌∷◌, Bool, true, not, cond, ◌&&◌, length, replicate, ltb, Result}
 use Rattle.laws.specs.Words.{bit}
 use Rattle.laws.specs.Lists.{each}
+use Rattle.laws.specs.Refusals.{answered_by}
+use Rattle.laws.specs.declared.refusals.Refusal.{Refusal}
 use Rattle.laws.specs.Tests.{is_in}
 use Rattle.sets.specs.Sets.{bits_from}
 use Rattle.registers.specs.Files.{file_with}
@@ -10,8 +12,6 @@ use Rattle.records.specs.Lists.{list_refusal, records_in}
 use Rattle.fetching.specs.Needs.{held_registers, needs_of}
 use Rattle.fetching.specs.declared.Judgement.{Judgement}
 use Rattle.fetching.specs.declared.Judgement.TheVariants as judged
-use Rattle.fetching.specs.declared.Proposal.{Proposal}
-use Rattle.fetching.specs.declared.Proposal.TheVariants as proposals
 
 -- a set has a bit for each of the sixteen general registers, rip, and the bases of fs and gs
 abbrev pub set_bits : ℕ
@@ -48,12 +48,11 @@ unfoldable pub proposed : List (List ℕ) → ℕ
 proposed bs = bits_from (λ (k : ℕ). is_in k (each needs_of bs)) 0 set_bits
 
 -- Both over the bytes of a list of records, n bytes each
-unfoldable pub judge_call : List ℕ → ℕ → ℕ → Judgement
-judge_call b n v = cond (eqb (list_refusal (length b) n) 0) (judge v (records_in n b)) (judged.Refused (list_refusal (length b) n))
+unfoldable pub judge_call : List ℕ → ℕ → ℕ → Result Judgement Refusal
+judge_call b n v = answered_by (list_refusal (length b) n) (judge v (records_in n b))
 
-unfoldable pub propose_call : List ℕ → ℕ → Proposal
-propose_call b n =
-    cond (eqb (list_refusal (length b) n) 0) (proposals.Done (proposed (records_in n b))) (proposals.Refused (list_refusal (length b) n))
+unfoldable pub propose_call : List ℕ → ℕ → Result ℕ Refusal
+propose_call b n = answered_by (list_refusal (length b) n) (proposed (records_in n b))
 
 -- a file that knows only the registers of a set, of those that it knew
 unfoldable pub restricted : ℕ → RegisterFile → RegisterFile

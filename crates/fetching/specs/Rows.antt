@@ -1,5 +1,7 @@
 -- Tables: the registers to fetch for a record, and what the judge says of sets and lists.
-use Rattle.std.specs.Prelude.{ℕ, ◌^◌, ◌≡◌, List, [], ◌∷◌, ◌++◌, true, replicate}
+use Rattle.std.specs.Prelude.{ℕ, ◌^◌, ◌≡◌, List, [], ◌∷◌, ◌++◌, true, replicate, Result, Ok, Err}
+use Rattle.laws.specs.declared.refusals.Refusal.{Refusal}
+use Rattle.laws.specs.declared.refusals.Refusal.TheVariants.{Malformed, Outside}
 use Rattle.registers.specs.Banks.{reg}
 use Rattle.registers.specs.Files.{file_of}
 use Rattle.definition.specs.Visits.{log_of}
@@ -9,8 +11,6 @@ use Rattle.fetching.specs.Needs.{refusal_alone}
 use Rattle.fetching.specs.Judging.{accepts, proposed, restricted, judge_call, propose_call}
 use Rattle.fetching.specs.declared.Judgement.{Judgement}
 use Rattle.fetching.specs.declared.Judgement.TheVariants as judged
-use Rattle.fetching.specs.declared.Proposal.{Proposal}
-use Rattle.fetching.specs.declared.Proposal.TheVariants as proposals
 
 -- the registers to fetch for one record
 abbrev pub fetched : List Patch → ℕ
@@ -123,48 +123,48 @@ pub record Asked : Type 0 where
 abbrev pub asked : List ℕ → ℕ → ℕ → Asked
 asked b n v = record { bytes = b; long = n; set = v }
 
-abbrev pub answered : Asked → Judgement × Proposal
+abbrev pub answered : Asked → Result Judgement Refusal × Result ℕ Refusal
 answered a = (judge_call a.bytes a.long a.set, propose_call a.bytes a.long)
 
-unfoldable pub judgements : List (Asked × (Judgement × Proposal))
+unfoldable pub judgements : List (Asked × (Result Judgement Refusal × Result ℕ Refusal))
 judgements =
     -- no record at all: every set without a bit above the last
-    (asked [] 40 0, (judged.Accepted, proposals.Done 0))
-    ∷ (asked [] 40 (2 ^ 19), (judged.NoSuchBit, proposals.Done 0))
+    (asked [] 40 0, (Ok judged.Accepted, Ok 0))
+    ∷ (asked [] 40 (2 ^ 19), (Ok judged.NoSuchBit, Ok 0))
     -- the set itself, more, and less
-    ∷ (asked at_rbx 40 0x8, (judged.Accepted, proposals.Done 0x8))
-    ∷ (asked at_rbx 40 0x7FFFF, (judged.Accepted, proposals.Done 0x8))
-    ∷ (asked at_rbx 40 0x7FFF7, (judged.Lacking 0 3, proposals.Done 0x8))
+    ∷ (asked at_rbx 40 0x8, (Ok judged.Accepted, Ok 0x8))
+    ∷ (asked at_rbx 40 0x7FFFF, (Ok judged.Accepted, Ok 0x8))
+    ∷ (asked at_rbx 40 0x7FFF7, (Ok (judged.Lacking 0 3), Ok 0x8))
     -- a bit above the last stands for no register, whatever else is in the set
-    ∷ (asked at_rbx 40 0x80008, (judged.NoSuchBit, proposals.Done 0x8))
+    ∷ (asked at_rbx 40 0x80008, (Ok judged.NoSuchBit, Ok 0x8))
     -- the first record that lacks one, and its lowest; records that are refused keep their numbers
-    ∷ (asked (at_rbx ++ at_rax_rsi ++ at_rbx) 40 0x8, (judged.Lacking 1 0, proposals.Done 0x49))
-    ∷ (asked (at_rbx ++ at_rax_rsi ++ at_rbx) 40 0x9, (judged.Lacking 1 6, proposals.Done 0x49))
-    ∷ (asked (complex_one ++ at_rax_rsi) 40 0, (judged.Lacking 1 0, proposals.Done 0x41))
-    ∷ (asked (complex_one ++ complex_one) 40 0, (judged.Accepted, proposals.Done 0))
+    ∷ (asked (at_rbx ++ at_rax_rsi ++ at_rbx) 40 0x8, (Ok (judged.Lacking 1 0), Ok 0x49))
+    ∷ (asked (at_rbx ++ at_rax_rsi ++ at_rbx) 40 0x9, (Ok (judged.Lacking 1 6), Ok 0x49))
+    ∷ (asked (complex_one ++ at_rax_rsi) 40 0, (Ok (judged.Lacking 1 0), Ok 0x41))
+    ∷ (asked (complex_one ++ complex_one) 40 0, (Ok judged.Accepted, Ok 0))
     -- records that name a segment lack its base, in the order of the bits
-    ∷ (asked (at_fs_rbx ++ at_gs_rdi) 41 0x60088, (judged.Accepted, proposals.Done 0x60088))
-    ∷ (asked (at_fs_rbx ++ at_gs_rdi) 41 0x40088, (judged.Lacking 0 17, proposals.Done 0x60088))
-    ∷ (asked (at_fs_rbx ++ at_gs_rdi) 41 0x20008, (judged.Lacking 1 7, proposals.Done 0x60088))
-    ∷ (asked (at_fs_rbx ++ at_gs_rdi) 41 0x20088, (judged.Lacking 1 18, proposals.Done 0x60088))
+    ∷ (asked (at_fs_rbx ++ at_gs_rdi) 41 0x60088, (Ok judged.Accepted, Ok 0x60088))
+    ∷ (asked (at_fs_rbx ++ at_gs_rdi) 41 0x40088, (Ok (judged.Lacking 0 17), Ok 0x60088))
+    ∷ (asked (at_fs_rbx ++ at_gs_rdi) 41 0x20008, (Ok (judged.Lacking 1 7), Ok 0x60088))
+    ∷ (asked (at_fs_rbx ++ at_gs_rdi) 41 0x20088, (Ok (judged.Lacking 1 18), Ok 0x60088))
     -- records without a digest; one that is refused 9 needs nothing
-    ∷ (asked (unlisted_one ++ short_at_rbx) 36 0x8, (judged.Accepted, proposals.Done 0x8))
-    ∷ (asked (unlisted_one ++ short_at_rbx) 36 0x40, (judged.Lacking 1 3, proposals.Done 0x8))
-    ∷ (asked (unlisted_one ++ unlisted_one) 36 0, (judged.Accepted, proposals.Done 0))
+    ∷ (asked (unlisted_one ++ short_at_rbx) 36 0x8, (Ok judged.Accepted, Ok 0x8))
+    ∷ (asked (unlisted_one ++ short_at_rbx) 36 0x40, (Ok (judged.Lacking 1 3), Ok 0x8))
+    ∷ (asked (unlisted_one ++ unlisted_one) 36 0, (Ok judged.Accepted, Ok 0))
     -- a record of another kind's length is refused, and needs nothing
-    ∷ (asked (long 41 at_rbx) 41 0, (judged.Accepted, proposals.Done 0))
+    ∷ (asked (long 41 at_rbx) 41 0, (Ok judged.Accepted, Ok 0))
     -- refused 1: no record's length, of no bytes too; no multiple of it. It comes before a bit above the last
-    ∷ (asked [] 39 0, (judged.Refused 1, proposals.Refused 1))
-    ∷ (asked [] 0 0, (judged.Refused 1, proposals.Refused 1))
-    ∷ (asked (long 41 at_rbx) 40 0x8, (judged.Refused 1, proposals.Refused 1))
-    ∷ (asked (long 39 at_rbx) 40 0x80008, (judged.Refused 1, proposals.Refused 1))
+    ∷ (asked [] 39 0, (Err Malformed, Err Malformed))
+    ∷ (asked [] 0 0, (Err Malformed, Err Malformed))
+    ∷ (asked (long 41 at_rbx) 40 0x8, (Err Malformed, Err Malformed))
+    ∷ (asked (long 39 at_rbx) 40 0x80008, (Err Malformed, Err Malformed))
     ∷ []
 
 -- refused 2: a record more than the most
-unfoldable pub too_many : List (Asked × (Judgement × Proposal))
+unfoldable pub too_many : List (Asked × (Result Judgement Refusal × Result ℕ Refusal))
 too_many =
-    (asked (replicate 40040 0) 40 0x80000, (judged.Refused 2, proposals.Refused 2))
-    ∷ (asked (replicate 40041 0) 40 0, (judged.Refused 1, proposals.Refused 1))
+    (asked (replicate 40040 0) 40 0x80000, (Err Outside, Err Outside))
+    ∷ (asked (replicate 40041 0) 40 0, (Err Malformed, Err Malformed))
     ∷ []
 
 -- Of a refused record the events as defined may differ under a restricted file. What is alike is the visit, which writes none of them.

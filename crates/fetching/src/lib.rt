@@ -1,19 +1,11 @@
-// The types that the definitions of specs/ speak of. No code stands here.
+// The type that the definitions of specs/ speak of. No code stands here.
 #![tactic(auto)]
 
 // What the judge says of a set of registers: it is accepted; it is not, for a bit that stands for no register, or for the first record
-// that lacks a register, by its number from 0, and the lowest bit that it lacks; or the list of records is refused.
+// that lacks a register, by its number from 0, and the lowest bit that it lacks.
 #[derive(Clone, Copy)]
 pub enum Judgement {
     Accepted,
     NoSuchBit,
     Lacking(usize, u8),
-    Refused(u8),
-}
-
-// What the proposer says: a set of registers, or that the list of records is refused.
-#[derive(Clone, Copy)]
-pub enum Proposal {
-    Done(u32),
-    Refused(u8),
 }

@@ -1,13 +1,13 @@
--- A walk along a list of records, from record i on. Assumes nothing.
-use Prim.Native.Nat.{ℕ, zero, suc, ◌+◌, ◌-◌, ◌*◌, ◌/◌, ◌%◌, ◌≤◌, ◌<◌}
+-- A walk along a list of records. Assumes nothing.
+use Prim.Native.Nat.{ℕ, zero, suc, ◌+◌, ◌*◌, ◌/◌, ◌%◌, ◌≤◌, ◌<◌}
 use native.Mathlib.Omega.{arith}
-use native.Mathlib.Nat.{zero-mul, suc-mul, add-mul, one-mul, sub-zero, mul-le-mul_right, div-add-mod'}
-use mathlib.Core.Path.{◌≡◌, refl, sym, ap, ◌∙◌}
-use mathlib.Core.List.{List, [], ◌∷◌}
+use native.Mathlib.Nat.{add_comm, div-add-mod', add-div_right, div-eq_of_lt}
+use mathlib.Core.Path.{◌≡◌, refl, ap, ◌∙◌}
+use mathlib.Core.List.{List, [], ◌∷◌, ◌++◌}
 use mathlib.Core.Bool.{Bool, true, false, ◌||◌}
-use lib.ListN.{length, take, drop}
+use lib.ListN.{length, drop, length-append}
 use lib.Dec.{eqb, lit≤}
-use lib.Seq.{drop-drop}
+use lib.Seq.{take-append_seam, drop-append_seam}
 use borrow.Author.Tests.{eqb-true, not-false, ltb-false}
 use Rattle.laws.specs.Tests.{any, is_in}
 use Rattle.laws.proofs.Every.{first_zero}
@@ -49,33 +49,23 @@ unfolding cut
 cut_length zero each b = refl
 cut_length (suc n) each b = ap suc (cut_length n each (drop each b))
 
--- record i lies inside
-pub inside : {n each : ℕ} (i : ℕ) → Listed n each → i < n / each → i * each + each ≤ n
-inside {n} {each} i l h =
-    let m : suc i * each ≤ n / each * each = mul-le-mul_right each h in
-    omega (arith, m, suc-mul i each, l.whole)
+-- the bytes that are left of a list begin with record x
+module _ (each : ℕ) {left : List ℕ} (x rest : List ℕ) (some : 0 < each) (long : length x ≡ each) (next : left ≡ x ++ rest) where
+  -- how many records they are
+  pub count_next : length left / each ≡ suc (length rest / each)
+  count_next =
+      let n : length (x ++ rest) ≡ length rest + each = length-append x rest ∙ add_comm (length x) (length rest) ∙ ap (λ (k : ℕ). length rest + k) long in
+      rw (next, n) (omega (arith, add-div_right (length rest) some))
 
-add_one_mul : (i each : ℕ) → (i + 1) * each ≡ i * each + each
-add_one_mul i each = rw (add-mul i 1 each, one-mul each)
+  -- that record, and those behind it
+  pub records_next : records_in each left ≡ x ∷ records_in each rest
+  unfolding records_in cut
+  records_next = rw (count_next, next, ← long, take-append_seam x rest, drop-append_seam x rest)
 
-module _ (each : ℕ) (b : List ℕ) where
-  -- the records from i on
-  abbrev pub from : ℕ → List (List ℕ)
-  from i = cut (length b / each - i) each (drop (i * each) b)
+-- none is left
+pub count_end : (each : ℕ) (left : List ℕ) → length left < each → length left / each ≡ 0
+count_end each left short = div-eq_of_lt short
 
-  pub from_first : from 0 ≡ records_in each b
-  unfolding records_in
-  from_first = rw (zero-mul each, sub-zero (length b / each))
-
-  -- the record at i, and those behind it
-  pub from_next : (i : ℕ) → i < length b / each → from i ≡ take each (drop (i * each) b) ∷ from (i + 1)
-  unfolding cut
-  from_next i h =
-      let n : length b / each - i ≡ suc (length b / each - (i + 1)) = omega arith in
-      let d : drop each (drop (i * each) b) ≡ drop ((i + 1) * each) b =
-      drop-drop each (i * each) b ∙ ap (λ (k : ℕ). drop k b) (sym (add_one_mul i each)) in
-      rw (n, d)
-
-  pub from_end : (i : ℕ) → length b / each ≤ i → from i ≡ []
-  unfolding cut
-  from_end i h = let n : length b / each - i ≡ 0 = omega arith in rw n
+pub records_end : (each : ℕ) (left : List ℕ) → length left < each → records_in each left ≡ []
+unfolding records_in cut
+records_end each left short = rw (count_end each left short)

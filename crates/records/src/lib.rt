@@ -1,38 +1,38 @@
 // A list of records as bytes, one after the other, each of the same length.
 #![tactic(auto)]
 
+mod lists; // lists.rt: a list that is not refused
+
 ghost use Rattle.std.specs.Prelude.{◌≡◌};
+ghost use Rattle.laws.specs.Refusals.{answered_by};
 ghost use Rattle.laws.specs.Tests.{is_in};
 ghost use Rattle.records.specs.Lists.{record_lengths, list_refusal};
+
+use laws::Refusal;
+pub use lists::RecordList;
+use record::{EVERYDAY_BYTES, RECORD_BYTES, SEGMENT_BYTES};
 
 // No list has more records.
 pub const MOST_RECORDS: usize = 1000;
 
 // Whether a record can be so long.
+#[tactic(auto, unfolding(laws::specs::Tests::is_in, laws::specs::Tests::any))]
 fn is_length(each: usize) -> bool
     ensures { result ≡ is_in each record_lengths }
 {
-    if each == record::EVERYDAY_BYTES {
-        return true;
-    }
-    if each == record::RECORD_BYTES {
-        return true;
-    }
-    each == record::SEGMENT_BYTES
+    [EVERYDAY_BYTES, RECORD_BYTES, SEGMENT_BYTES].contains(&each)
 }
 
-// How a list of so many bytes is refused, whose records have `each`: 1 or 2, and 0 where it is not.
-pub fn list_refusal(length: usize, each: usize) -> u8
-    ensures { result ≡ list_refusal length each }
+// Whether a list can have so many bytes, whose records have `each`.
+#[tactic(auto, using(crate::proofs::Cuts::one_of_lengths), unfolding(crate::specs::Lists::list_refusal, laws::specs::Tests::first_of))]
+pub fn check(length: usize, each: usize) -> Result<(), Refusal>
+    ensures { result ≡ answered_by (list_refusal length each) tt }
 {
-    if !is_length(each) {
-        return 1;
-    }
-    if length % each != 0 {
-        return 1;
+    if !is_length(each) || length % each != 0 {
+        return Err(Refusal::Malformed);
     }
     if MOST_RECORDS < length / each {
-        return 2;
+        return Err(Refusal::Outside);
     }
-    0
+    Ok(())
 }
