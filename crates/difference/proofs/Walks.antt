@@ -2,12 +2,9 @@
 use Prim.Native.Nat.{ℕ, ◌+◌}
 use native.Mathlib.Omega.{arith}
 use mathlib.Core.Path.{◌≡◌, refl, sym, ap, ◌∙◌}
-use mathlib.Core.Logic.{⊎_elim, ◌⊎◌}
 use mathlib.Core.Bool.{true, false}
 use mathlib.Core.List.{List, [], ◌∷◌}
 use lib.ListN.{length, drop}
-use denote.Enum.Declared.{tag_of, declared}
-use Rattle.definition.specs.contracts.Reading.{enum}
 use Rattle.definition.specs.Logs.{event_bytes}
 use Rattle.definition.specs.Readings.{read_front, read_at, placed}
 use Rattle.definition.specs.declared.Event.{Event}
@@ -30,12 +27,12 @@ in_front_lem e (broken es k) = refl
 found : (l : List ℕ) (at : ℕ) {e : Event} {next : ℕ} → read_at l at ≡ Found e next → events_at l at ≡ e ∷ events_at l next
 found l at {e} {next} f = ap events_in (turn l at) ∙ rw f (in_front_lem e (whole_at l next))
 
-none : (r : Reading) (rest : ℕ → Whole) → (tag_of (declared enum) r ≡ 1) ⊎ (tag_of (declared enum) r ≡ 2) → events_in (onward r rest) ≡ []
-none (Found e n) rest t = absurd (⊎_elim (λ x. omega arith) (λ x. omega arith) t)
+none : (r : Reading) (rest : ℕ → Whole) → ((d : Event) (k : ℕ) → r ≡ Found d k → ⊥) → events_in (onward r rest) ≡ []
+none (Found e n) rest t = absurd (t e n refl)
 none (Bad k) rest t = refl
 none Finished rest t = refl
 
-stops : (l : List ℕ) (at : ℕ) (r : Reading) → r ≡ read_at l at → (tag_of (declared enum) r ≡ 1) ⊎ (tag_of (declared enum) r ≡ 2) → events_at l at ≡ []
+stops : (l : List ℕ) (at : ℕ) (r : Reading) → r ≡ read_at l at → ((d : Event) (k : ℕ) → r ≡ Found d k → ⊥) → events_at l at ≡ []
 stops l at r e t = ap events_in (turn l at) ∙ rw (← e) (none r (whole_at l) t)
 
 -- an event ends its own bytes behind its place
@@ -60,12 +57,12 @@ module _ (a b : List ℕ) (at : ℕ) where
   begins e = rw e (omega arith)
 
   -- nothing is left of the first, or of the second
-  pub first_stops : (r : Reading) → r ≡ read_at a at → (tag_of (declared enum) r ≡ 1) ⊎ (tag_of (declared enum) r ≡ 2) → ahead a b at ≡ at
+  pub first_stops : (r : Reading) → r ≡ read_at a at → ((d : Event) (k : ℕ) → r ≡ Found d k → ⊥) → ahead a b at ≡ at
   unfolding parting_at front_of
   first_stops r e t = rw (stops a at r e t, size_nil) (omega arith)
 
   module _ (d : Event) {n : ℕ} (first : read_at a at ≡ Found d n) where
-    pub second_stops : (r : Reading) → r ≡ read_at b at → (tag_of (declared enum) r ≡ 1) ⊎ (tag_of (declared enum) r ≡ 2) → ahead a b at ≡ at
+    pub second_stops : (r : Reading) → r ≡ read_at b at → ((d : Event) (k : ℕ) → r ≡ Found d k → ⊥) → ahead a b at ≡ at
     unfolding parting_at front_of
     second_stops r e t = rw (found a at first, stops b at r e t, size_nil) (omega arith)
 
