@@ -3,7 +3,7 @@ use Prim.Native.Nat.{ℕ, zero, suc, ◌+◌, ◌≤◌, ◌<◌}
 use native.Mathlib.Omega.{arith}
 use native.Mathlib.Nat.{zero-add}
 use mathlib.Core.Path.{◌≡◌, refl, sym, ap, ◌∙◌}
-use mathlib.Core.List.{List}
+use mathlib.Core.List.{List, [], ◌∷◌}
 use lib.ListN.{length, drop, length-drop}
 use lib.Seq.{drop-drop}
 use Rattle.std.specs.Prelude.{Result, Ok, Err}
@@ -12,7 +12,7 @@ use Rattle.definition.specs.declared.Event.{Event}
 use Rattle.definition.specs.declared.Reading.{Reading}
 use Rattle.definition.specs.declared.Reading.TheVariants.{Found, Bad, Finished}
 use Rattle.definition.specs.Readings.{read_front, read_at, placed}
-use Rattle.event.specs.Wholes.{Whole, all, broken, in_front, onward, read_from, whole_of}
+use Rattle.event.specs.Wholes.{Whole, all, broken, events_in, in_front, onward, read_from, whole_of}
 use Rattle.event.specs.Counts.{count_in, end_of}
 use Rattle.event.proofs.Fronts.{Within, within, front_empty}
 
@@ -54,6 +54,25 @@ from_place l at Finished = refl
 pub turn : (l : List ℕ) (at : ℕ) → whole_at l at ≡ onward (read_at l at) (whole_at l)
 unfolding read_at
 turn l at = unrolled (drop at l) ∙ from_place l at (read_front (drop at l))
+
+-- the events from a place on, by what is read there: one and those behind it, or none
+abbrev pub events_at : List ℕ → ℕ → List Event
+events_at l at = events_in (whole_at l at)
+
+first_in : (e : Event) (w : Whole) → events_in (in_front e w) ≡ e ∷ events_in w
+first_in e (all es) = refl
+first_in e (broken es r) = refl
+
+none_in : (r : Reading) (rest : ℕ → Whole) → ((e : Event) (k : ℕ) → r ≡ Found e k → ⊥) → events_in (onward r rest) ≡ []
+none_in (Found e n) rest t = absurd (t e n refl)
+none_in (Bad r) rest t = refl
+none_in Finished rest t = refl
+
+pub found_at : (l : List ℕ) (at : ℕ) {e : Event} {next : ℕ} → read_at l at ≡ Found e next → events_at l at ≡ e ∷ events_at l next
+found_at l at {e} {next} f = ap events_in (turn l at) ∙ rw f (first_in e (whole_at l next))
+
+pub stops_at : (l : List ℕ) (at : ℕ) (r : Reading) → r ≡ read_at l at → ((e : Event) (k : ℕ) → r ≡ Found e k → ⊥) → events_at l at ≡ []
+stops_at l at r e t = ap events_in (turn l at) ∙ rw (← e) (none_in r (whole_at l) t)
 
 -- the count, after n events
 abbrev pub after : ℕ → Whole → Result ℕ Refusal
