@@ -1,8 +1,9 @@
 -- What adding a log comes to, by its refusal. Assumes nothing.
 use Rattle.std.proofs.Common.{◌≡◌, ℕ, Bool, true, false, cond, not, ltb, leb, List, length, get_or, refl, arith, eq-eqb, ne_eqb}
 use Rattle.laws.specs.Lists.{each}
+use Rattle.laws.specs.Refusals.{refused_by}
 use Rattle.event.specs.Wholes.{events_in, whole_of}
-use Rattle.event.specs.Counts.{counted_of, counted_number}
+use Rattle.event.specs.Counts.{counted_of}
 use Rattle.watching.specs.Verdicts.{is_length}
 use Rattle.totals.specs.Sheets.{logs_word, length_word, most_logs, most_log_bytes, variable_in, additions, log_adds, raised, raised_by, refusal_of, taken_by, add_of}
 
@@ -16,14 +17,14 @@ by_tests false true false n e = (refl, refl, refl, e)
 -- a log that is taken: the limit is not reached, the variable has a length that there is, the log is not too long and reads whole
 pub taken_when :
     (w l : List ℕ) → refusal_of w l ≡ 0
-    → (leb most_logs (get_or w logs_word 0) ≡ false) × (is_length (get_or w length_word 0) ≡ true) × (ltb most_log_bytes (length l) ≡ false) × (counted_number (counted_of l) ≡ 0)
+    → (leb most_logs (get_or w logs_word 0) ≡ false) × (is_length (get_or w length_word 0) ≡ true) × (ltb most_log_bytes (length l) ≡ false) × (refused_by (counted_of l) ≡ 0)
 unfolding refusal_of
-taken_when w l e = by_tests (leb most_logs (get_or w logs_word 0)) (is_length (get_or w length_word 0)) (ltb most_log_bytes (length l)) (counted_number (counted_of l)) e
+taken_when w l e = by_tests (leb most_logs (get_or w logs_word 0)) (is_length (get_or w length_word 0)) (ltb most_log_bytes (length l)) (refused_by (counted_of l)) e
 
 -- and back
 pub taken_so :
     (w l : List ℕ) → leb most_logs (get_or w logs_word 0) ≡ false → is_length (get_or w length_word 0) ≡ true → ltb most_log_bytes (length l) ≡ false
-    → refusal_of w l ≡ counted_number (counted_of l)
+    → refusal_of w l ≡ refused_by (counted_of l)
 unfolding refusal_of
 taken_so w l a b c = rw (a, b, c)
 
