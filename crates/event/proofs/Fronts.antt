@@ -107,6 +107,21 @@ goes_on_lem l at = moved l at (read_front (drop at l)) (within (drop at l))
 pub further : (l : List ℕ) (at : ℕ) {r : Reading} → r ≡ read_at l at → {e : Event} {n : ℕ} → r ≡ Found e n → (at < n) × (n ≤ length l)
 further l at read {e} {n} found = subst (Moves l at) (sym read ∙ found) (goes_on_lem l at)
 
+-- and is one that a log may hold
+abbrev Good : Reading → Type 0
+Good (Found e n) = is_event e ≡ true
+Good (Bad r) = Unit
+Good Finished = Unit
+
+good : (l : List ℕ) (at : ℕ) (r : Reading) → Within l r → Good (placed at r)
+good l at (Found e n) w = w.good
+good l at (Bad r) w = tt
+good l at Finished w = tt
+
+pub read_good : (l : List ℕ) (at : ℕ) {e : Event} {n : ℕ} → read_at l at ≡ Found e n → is_event e ≡ true
+unfolding read_at
+read_good l at f = subst Good f (good (drop at l) at (read_front (drop at l)) (within (drop at l)))
+
 -- at or past the end
 pub finished : (l : List ℕ) (at : ℕ) → length l ≤ at → read_at l at ≡ Finished
 unfolding read_at

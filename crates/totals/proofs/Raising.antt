@@ -5,7 +5,6 @@ use Rattle.definition.specs.declared.Event.{Event}
 use Rattle.definition.specs.declared.Reading.{Reading}
 use Rattle.definition.specs.declared.Reading.TheVariants.{Found, Bad, Finished}
 use Rattle.definition.specs.Readings.{is_event, read_front, read_at, placed}
-use Rattle.event.proofs.Fronts.{Within, within}
 use Rattle.event.proofs.Walks.{events_at, found_at, stops_at}
 use Rattle.watching.specs.declared.verdicts.Variable.{Variable}
 use Rattle.totals.specs.Sheets.{additions, raised, raised_by}
@@ -38,18 +37,3 @@ module _ (v : Variable) (l : List ℕ) where
   pub ends : (at : ℕ) (r : Reading) → r ≡ read_at l at → ((e : Event) (k : ℕ) → r ≡ Found e k → ⊥) → [] ≡ rest at
   unfolding each
   ends at r e h = sym (ap (λ (es : List Event). each (additions v) es) (stops_at l at r e h))
-
--- what is read is an event that a log may hold
-abbrev Good : Reading → Type 0
-Good (Found e k) = is_event e ≡ true
-Good (Bad k) = Unit {0}
-Good Finished = Unit {0}
-
-placed_good : (l : List ℕ) (at : ℕ) (r : Reading) → Within l r → Good (placed at r)
-placed_good l at (Found e k) g = g.good
-placed_good l at (Bad k) g = tt
-placed_good l at Finished g = tt
-
-pub read_good : (l : List ℕ) (at : ℕ) {e : Event} {k : ℕ} → read_at l at ≡ Found e k → is_event e ≡ true
-unfolding read_at
-read_good l at r = subst Good r (placed_good (drop at l) at (read_front (drop at l)) (within (drop at l)))
