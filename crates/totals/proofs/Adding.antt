@@ -1,7 +1,10 @@
 -- What adding a log comes to, by its refusal. Assumes nothing.
-use Rattle.std.proofs.Common.{◌≡◌, ℕ, Bool, true, false, cond, not, ltb, leb, List, length, get_or, refl, arith, eq-eqb, ne_eqb}
+use Rattle.std.proofs.Common.{◌≡◌, ℕ, Bool, true, false, cond, not, ltb, leb, List, length, get_or, refl, sym, arith, ne_eqb}
+use Rattle.std.specs.Prelude.{Result, Ok, Err}
 use Rattle.laws.specs.Lists.{each}
-use Rattle.laws.specs.Refusals.{refused_by}
+use Rattle.laws.specs.Refusals.{refusal_number, refused_by}
+use Rattle.laws.specs.declared.refusals.Refusal.{Refusal}
+use Rattle.laws.specs.declared.refusals.Refusal.TheVariants.{Malformed, Outside, BadFile, Complex, Nameless, Sizeless, NoRoom, Cut, Unlisted, Full}
 use Rattle.event.specs.Wholes.{events_in, whole_of}
 use Rattle.event.specs.Counts.{counted_of}
 use Rattle.watching.specs.Verdicts.{is_length}
@@ -28,14 +31,33 @@ pub taken_so :
 unfolding refusal_of
 taken_so w l a b c = rw (a, b, c)
 
--- the two outcomes
-pub refused : (w l : List ℕ) (n : ℕ) → n ≡ refusal_of w l → (n ≡ 0 → ⊥) → (n, w) ≡ add_of w l
-unfolding add_of
-refused w l n e h = rw (← e, ne_eqb n 0 h)
+-- a refusal's number is not 0
+numbered : (r : Refusal) → refusal_number r ≡ 0 → ⊥
+numbered Malformed e = absurd (omega arith)
+numbered Outside e = absurd (omega arith)
+numbered BadFile e = absurd (omega arith)
+numbered (Complex o) e = absurd (omega arith)
+numbered Nameless e = absurd (omega arith)
+numbered Sizeless e = absurd (omega arith)
+numbered (NoRoom n) e = absurd (omega arith)
+numbered Cut e = absurd (omega arith)
+numbered Unlisted e = absurd (omega arith)
+numbered Full e = absurd (omega arith)
 
-pub took : (w l u : List ℕ) (n : ℕ) → n ≡ refusal_of w l → n ≡ 0 → u ≡ taken_by w l → (0, u) ≡ add_of w l
-unfolding add_of
-took w l u n e h q = rw (← e, eq-eqb n 0 h, h, q)
+-- the two outcomes, by what the tests came to
+module _ (w l : List ℕ) {c : Result Unit Refusal} (is : refused_by c ≡ refusal_of w l) where
+  pub refused : {r : Refusal} {n : ℕ} → c ≡ Err r → n ≡ refusal_number r → (n, w) ≡ add_of w l
+  unfolding add_of
+  refused {r} e m =
+      let k : refusal_number r ≡ refusal_of w l = rw e at is in
+      rw (m, ← k, ne_eqb (refusal_number r) 0 (numbered r))
+
+  pub no_refusal : {x : Unit} → c ≡ Ok x → refusal_of w l ≡ 0
+  no_refusal e = sym (rw e at is)
+
+  pub took : {x : Unit} {u : List ℕ} → c ≡ Ok x → u ≡ taken_by w l → (0, u) ≡ add_of w l
+  unfolding add_of
+  took e q = let k = no_refusal e in rw (k, q)
 
 -- a log more, then its events
 pub taken_steps : (w l : List ℕ) → raised_by (raised w logs_word 1) (each (additions (variable_in w)) (events_in (whole_of l))) ≡ taken_by w l

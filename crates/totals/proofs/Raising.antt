@@ -1,10 +1,10 @@
 -- Words that are raised one by one, and by the events of a log from a place on. Assumes nothing.
-use Rattle.std.proofs.Common.{◌≡◌, ℕ, true, List, [], ◌∷◌, ◌++◌, drop, sym, refl, ap, ◌∙◌, subst}
+use Rattle.std.proofs.Common.{◌≡◌, ℕ, List, [], ◌∷◌, ◌++◌, sym, refl, ap, ◌∙◌}
 use Rattle.laws.specs.Lists.{each}
 use Rattle.definition.specs.declared.Event.{Event}
 use Rattle.definition.specs.declared.Reading.{Reading}
-use Rattle.definition.specs.declared.Reading.TheVariants.{Found, Bad, Finished}
-use Rattle.definition.specs.Readings.{is_event, read_front, read_at, placed}
+use Rattle.definition.specs.declared.Reading.TheVariants.{Found}
+use Rattle.definition.specs.Readings.{read_at}
 use Rattle.event.proofs.Walks.{events_at, found_at, stops_at}
 use Rattle.watching.specs.declared.verdicts.Variable.{Variable}
 use Rattle.totals.specs.Sheets.{additions, raised, raised_by}

@@ -42,6 +42,7 @@ fn number_of(refusal: Refusal) -> u64
 
 // A new sheet; refused, the words stay.
 // Stays: the C interface, machhurel_sheet_new answers this number.
+#[tactic(auto, unfolding(crate::specs::Sheets::new_of, crate::specs::Sheets::fresh))]
 pub fn new_sheet(sheet: &mut [u64; WORDS], address: u64, length: u64) -> u64
     ensures { (result, sheet.new) ≡ new_of sheet.old address length }
 {
