@@ -1,5 +1,5 @@
 -- What adding a log comes to, by its refusal. Assumes nothing.
-use Rattle.std.proofs.Common.{◌≡◌, ℕ, Bool, true, false, cond, not, ltb, leb, List, length, get_or, refl, sym, arith, ne_eqb}
+use Rattle.std.proofs.Common.{◌≡◌, ℕ, Bool, true, false, cond, not, ltb, leb, List, length, get_or, refl, sym, ◌∙◌, arith, ne_eqb}
 use Rattle.std.specs.Prelude.{Result, Ok, Err}
 use Rattle.laws.specs.Lists.{each}
 use Rattle.laws.specs.Refusals.{refusal_number, refused_by}
@@ -32,7 +32,7 @@ unfolding refusal_of
 taken_so w l a b c = rw (a, b, c)
 
 -- a refusal's number is not 0
-numbered : (r : Refusal) → refusal_number r ≡ 0 → ⊥
+pub numbered : (r : Refusal) → refusal_number r ≡ 0 → ⊥
 numbered Malformed e = absurd (omega arith)
 numbered Outside e = absurd (omega arith)
 numbered BadFile e = absurd (omega arith)
@@ -44,13 +44,15 @@ numbered Cut e = absurd (omega arith)
 numbered Unlisted e = absurd (omega arith)
 numbered Full e = absurd (omega arith)
 
+-- refused, the words stay
+pub stays : (w l : List ℕ) {n : ℕ} → n ≡ refusal_of w l → (n ≡ 0 → ⊥) → (n, w) ≡ add_of w l
+unfolding add_of
+stays w l {n} e h = rw (← e, ne_eqb n 0 h)
+
 -- the two outcomes, by what the tests came to
 module _ (w l : List ℕ) {c : Result Unit Refusal} (is : refused_by c ≡ refusal_of w l) where
   pub refused : {r : Refusal} {n : ℕ} → c ≡ Err r → n ≡ refusal_number r → (n, w) ≡ add_of w l
-  unfolding add_of
-  refused {r} e m =
-      let k : refusal_number r ≡ refusal_of w l = rw e at is in
-      rw (m, ← k, ne_eqb (refusal_number r) 0 (numbered r))
+  refused {r} e m = stays w l (m ∙ rw e at is) (rw m (numbered r))
 
   pub no_refusal : {x : Unit} → c ≡ Ok x → refusal_of w l ≡ 0
   no_refusal e = sym (rw e at is)
