@@ -7,7 +7,7 @@ use Rattle.definition.specs.Visits.{log_of}
 use Rattle.definition.specs.declared.Event.{Event}
 use Rattle.definition.specs.declared.Answer.TheVariants.{Done, Refused, Complex}
 use Rattle.definition.specs.declared.Event.TheVariants.{RegisterRead, RegisterWrite, UnknownRead}
-use Rattle.laws.specs.declared.refusals.Refusal.TheVariants.{Malformed, Outside}
+use Rattle.laws.specs.declared.refusals.Refusal.TheVariants.{Outside}
 use Rattle.definition.specs.declared.Reading.{Reading}
 use Rattle.definition.specs.declared.Reading.TheVariants.{Found, Bad}
 use Rattle.registers.specs.Banks as banks
