@@ -129,7 +129,7 @@ pub fn name_event(v: Variable, log: &[u8], at: usize) -> Naming
         let r = read_event(log, at);
         match r {
             Reading::Found(e, next) => Naming::Named(verdict_on(v, e), touched_by(v, e), next),
-            Reading::Bad(number) => Naming::Unnamed(number),
+            Reading::Bad(refusal) => Naming::Unnamed(u8::from(refusal)),
             Reading::Finished => Naming::Ended,
         }
     } else {
