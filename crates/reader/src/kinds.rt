@@ -2,7 +2,7 @@
 ghost use Rattle.std.specs.Prelude.{◌≡◌, ◌<◌};
 ghost use Rattle.registers.specs.Files.{is_file};
 ghost use Rattle.streams.specs.Streams.{length_of, of_file};
-ghost use Rattle.reader.specs.Held.{item_room};
+ghost use Rattle.reader.specs.Places.{item_room};
 
 // Whether a kind is a file's.
 pub fn of_file(kind: u8) -> bool
