@@ -8,8 +8,9 @@ use mathlib.Core.Bool.{Bool, true, false, cond}
 use lib.ListN.{length, get_or, take, drop, set, replicate, length-append, length-replicate}
 use lib.Seq.{sets, sets-eq, take_at, drop-append-add, ext_get_or}
 use lib.Dec.{eqb}
-use lib.Pointwise.{pointwise, bytes_decides}
+use mir.Val.{bool_byte as from_bool}
 use Rattle.laws.proofs.Choice.{and_left, and_right}
+use Rattle.streams.specs.Streams.{StreamReader}
 use Rattle.reader.specs.Held.{reader_with}
 use Rattle.reader.specs.declared.held.Reader.{Reader}
 use Rattle.reader_words.specs.Words.{reader_words, words_in, words_of, same_words}
@@ -40,13 +41,23 @@ module _ (a b : List ℕ) (p : length a ≡ 20) (q : length b ≡ 20) (k h s : �
   pub built : set (set (set (sets (sets (replicate 48 0) 0 a) 20 b) 40 k) 41 h) 42 s ≡ a ++ (b ++ (k ∷ h ∷ s ∷ replicate 5 0))
   built = ap (λ (l : List ℕ). sets (sets l 20 b) 40 (k ∷ h ∷ s ∷ [])) first ∙ ap (λ (l : List ℕ). sets l 40 (k ∷ h ∷ s ∷ [])) second ∙ third
 
+bit_is : (t : Bool) → from_bool t ≡ cond t 1 0
+bit_is true = refl
+bit_is false = refl
+
 -- the words that are stored one after the other are those of the reader
 pub written :
     (r : Reader) (v w : List ℕ) (s : ℕ)
-    → v ≡ sets (replicate 48 0) 0 (words_in r.kept) → w ≡ sets v 20 (words_in r.file) → s ≡ cond r.stopped 1 0
+    → v ≡ sets (replicate 48 0) 0 (words_in r.kept) → w ≡ sets v 20 (words_in r.file) → s ≡ from_bool r.stopped
     → set (set (set w 40 (length r.kept)) 41 (length r.file)) 42 s ≡ words_of (reader_with r)
 unfolding words_of
-written r v w s d e f = rw (e, d, f) (built (words_in r.kept) (words_in r.file) (words_long r.kept) (words_long r.file) (length r.kept) (length r.file) (cond r.stopped 1 0))
+written r v w s d e f = rw (e, d, f, bit_is r.stopped) (built (words_in r.kept) (words_in r.file) (words_long r.kept) (words_long r.file) (length r.kept) (length r.file) (cond r.stopped 1 0))
+
+pub words_long_lem : (r : StreamReader) → length (words_of r) ≡ reader_words
+unfolding words_of
+words_long_lem r =
+    length-append (words_in r.kept) (words_in r.file ++ (length r.kept ∷ length r.file ∷ cond r.stopped 1 0 ∷ replicate 5 0))
+    ∙ omega (arith, length-append (words_in r.file) (length r.kept ∷ length r.file ∷ cond r.stopped 1 0 ∷ replicate 5 0), words_long r.kept, words_long r.file)
 
 -- WORDS THAT ARE COMPARED
 pub same_as_itself : (w : List ℕ) (n : ℕ) → same_words w w n ≡ true
@@ -68,15 +79,3 @@ one_by_one v w (suc n) h i l = by_last_lem v w n i (and_right (same_words v w n)
 
 pub same_lists : (v w : List ℕ) → length v ≡ reader_words → length w ≡ reader_words → same_words v w reader_words ≡ true → v ≡ w
 same_lists v w p q h = ext_get_or 0 v w (p ∙ sym q) (λ i k. one_by_one v w reader_words h i (omega arith))
-
--- so `==` of two arrays is that test
-pub compared : (v w : List ℕ) → length v ≡ reader_words → length w ≡ reader_words → pointwise eqb v w ≡ same_words v w reader_words
-compared v w p q = go (pointwise eqb v w) (same_words v w reader_words) refl refl
-  where
-    go : (s t : Bool) → pointwise eqb v w ≡ s → same_words v w reader_words ≡ t → s ≡ t
-    go true true d e = refl
-    go false false d e = refl
-    go true false d e =
-        let z : v ≡ w = (bytes_decides v w).0 d in
-        sym (same_as_itself w reader_words) ∙ ap (λ (l : List ℕ). same_words l w reader_words) (sym z) ∙ e
-    go false true d e = sym d ∙ (bytes_decides v w).1 (same_lists v w p q e)

@@ -24,7 +24,7 @@ use Rattle.reader.proofs.Sound.{kind_short, file_short}
 use Rattle.reader_words.specs.Words.{reader_words, place_words, bytes_from, bytes_in, words_in, words_of, told_by, same_words, reader_by}
 use Rattle.reader_words.specs.Promises as promised
 use Rattle.reader_words.proofs.Packing.{words_long}
-use Rattle.reader_words.proofs.Ordered.{same_as_itself, same_lists}
+use Rattle.reader_words.proofs.Ordered.{words_long_lem, same_as_itself, same_lists}
 
 -- THE BYTES OF WORDS OF BYTES. The n bytes from place i on, 0 past the end
 unfoldable gets : List ℕ → ℕ → ℕ → List ℕ
@@ -119,9 +119,6 @@ module _ (r : StreamReader) where
       ap (λ (k : ℕ). get_or w k 0) e ∙ behind (place_words + i)
       ∙ ap (λ (n : ℕ). get_or (B ++ C) (n + i) 0) (sym (words_long r.file)) ∙ get_or-append-add B C i 0
 
-  pub long_words : length (words_of r) ≡ reader_words
-  long_words = ap length words_are ∙ length-append A (B ++ C) ∙ omega (arith, length-append B C, words_long r.kept, words_long r.file)
-
   stopped_is : not (eqb (get_or w 42 0) 0) ≡ r.stopped
   stopped_is = ap (λ (n : ℕ). not (eqb n 0)) (in_third 2) ∙ go r.stopped
     where
@@ -192,7 +189,7 @@ other_words_stop w l = go (same_words (words_of (told_by w)) w reader_words) ref
     go : (t : Bool) → same_words (words_of (told_by w)) w reader_words ≡ t
         → (words_of (cond t (told_by w) (halted [])) ≡ w) ⊎ (cond t (told_by w) (halted []) ≡ halted [])
     go true e =
-        inl (same_lists (words_of (told_by w)) w (long_words (told_by w)) l e)
+        inl (same_lists (words_of (told_by w)) w (words_long_lem (told_by w)) l e)
     go false e = inr refl
 
 bit_small : (t : Bool) → cond t 1 0 < 2

@@ -16,6 +16,7 @@ fn call_bits(call: Call) -> u64
         + (call.n as u64) * 0x1_0000_0000
 }
 
+#[tactic(auto, using(crate::proofs::Holding::fresh_words_lem))]
 pub fn new_words(reader: &mut [u64; 48]) -> u64
     ensures { (result, reader.new) ≡ fresh_words }
 {
