@@ -44,11 +44,6 @@ quietly o p s e = ap (λ (x : List ℕ). record { call = o.call; next = o.next; 
 
 -- WHAT WAS BROUGHT, as a call answers it
 module _ (t : Taking) (r : Reader) (log : List ℕ) (start : ℕ) (a : Call) (goes : r.stopped ≡ false) where
-  brought_quietly :
-      (o : Outcome) → o.log ≡ [] → outcome_of t.taken (closed t r) ≡ o
-      → record { call = o.call; next = o.next; buffer = log } ≡ handing (outcome_of t.taken (closed t r)) log start
-  brought_quietly o q e = quietly o log start q ∙ ap (λ (x : Outcome). handing x log start) (sym e)
-
   pub nothing_brought : t.brought ≡ Nothing → a ≡ calling 0 false t.taken 0 0 → left_by a r log ≡ handing (outcome_of t.taken (closed t r)) log start
   unfolding closed
   nothing_brought b e = rw (e, b, goes) (quietly (unfinished 0 t.taken 0 (reader r.file r.kept)) log start refl)
@@ -72,3 +67,6 @@ module _ (t : Taking) (r : Reader) (log : List ℕ) (start : ℕ) (a : Call) (go
         → left_by a (record { kept = k; file = r.file; stopped = r.stopped }) q ≡ handing (outcome_of t.taken (closed t r)) log start
     unfolding closed
     record_brought b v q w h e = rw (e, b, none, goes) (visit_replies r.file r.kept log start w t.taken h)
+
+-- what writes no log
+pub ruleset brought_quietly = (nothing_brought, unknown_brought, bad_brought)

@@ -1,7 +1,7 @@
 -- When bytes are those of a reader. Assumes nothing.
 use Prim.Native.Nat.{ℕ, ◌<◌}
 use native.Mathlib.Omega.{arith}
-use borrow.Author.Tests.{ltb-true, lt-ltb, le-ltb, eqb-true, eqb-false, eq-eqb, ne_eqb}
+use borrow.Author.Tests.{ltb-true, eqb-true, ne_eqb}
 use mathlib.Core.Path.{◌≡◌, refl}
 use mathlib.Core.Logic.{inl, inr}
 use mathlib.Core.List.{List, []}
@@ -96,3 +96,7 @@ module _ (r : Reader) where
   pub closes_inside : holds ≡ true → r.stopped ≡ false → (length r.kept ≡ 0 → ⊥) → 8 ≡ closing_of (reader_in r)
   unfolding reader_in closing_of
   closes_inside h s n = rw (h, s, ne_eqb (length r.kept) 0 n)
+
+pub ruleset checks = (held, not_held, goes)
+
+pub ruleset closes = (closes_stopped, closes_unsound, closes_between, closes_inside)

@@ -1,5 +1,5 @@
 -- One turn of the loop over a chunk: what the bytes that it takes do. Assumes nothing.
-use Prim.Native.Nat.{ℕ, zero, suc, ◌+◌, ◌-◌, ◌≤◌, ◌<◌, min}
+use Prim.Native.Nat.{ℕ, suc, ◌+◌, ◌-◌, ◌≤◌, ◌<◌, min}
 use native.Mathlib.Nat.{add-zero}
 use native.Mathlib.Omega.{arith}
 use borrow.Author.Tests.{ltb-true, ltb-false}
@@ -10,8 +10,7 @@ use mathlib.Core.Bool.{Bool, true, false, cond}
 use lib.ListN.{length, get_or, take, drop, length-append, length-drop, drop_of_length-le}
 use lib.Seq.{take_all, drop-drop, drop-cons, length-take-le}
 use lib.Dec.{ltb}
-use Rattle.registers.specs.Files.{file_length, is_file}
-use Rattle.record.specs.Records.{record_length}
+use Rattle.registers.specs.Files.{is_file}
 use Rattle.streams.specs.Cuts.{Saying, quiet, told, waits, stops, fed_from}
 use Rattle.streams.specs.Streams.{length_of, of_file, Said, meaning}
 use Rattle.reader.specs.Items.{ahead, doing, onward, closed, taking, after_item, only_open, goes_on, PartIn, Less}

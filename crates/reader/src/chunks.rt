@@ -44,11 +44,11 @@ fn answering(answer: Result<usize, Refusal>, finished: bool, taken: usize) -> Ca
         Err(refusal) => (u8::from(refusal), 0, 0),
     };
     Call {
-        number: number,
-        finished: finished,
-        taken: taken,
-        n: n,
-        opcode: opcode,
+        number,
+        finished,
+        taken,
+        n,
+        opcode,
     }
 }
 
@@ -63,11 +63,11 @@ fn visited(a: Answer, taken: usize) -> Call
         Answer::Short(n) => (7, n, 0),
     };
     Call {
-        number: number,
+        number,
         finished: true,
-        taken: taken,
-        n: n,
-        opcode: opcode,
+        taken,
+        n,
+        opcode,
     }
 }
 
@@ -79,7 +79,7 @@ impl Reader {
     }
 
     // A stopped reader, where the bytes are none of a reader.
-    #[tactic(auto, using(crate::proofs::Sound::held, crate::proofs::Sound::not_held, crate::proofs::Sound::goes))]
+    #[tactic(auto, using(crate::proofs::Sound::checks))]
     fn check(&mut self)
         ensures same { reader_with self.new ≡ reader_in self.old }
         ensures going { Going self.new }
@@ -92,7 +92,7 @@ impl Reader {
     }
 
     // What a chunk brought, answered.
-    #[tactic(auto, using(crate::proofs::Replies::nothing_brought, crate::proofs::Replies::unknown_brought, crate::proofs::Replies::bad_brought, crate::proofs::Replies::record_brought, crate::proofs::Replies::count_small))]
+    #[tactic(auto, using(crate::proofs::Replies::brought_quietly))]
     fn answer(&mut self, t: Taking, log: &mut [u8], start: usize) -> Call
         requires going { self.old.stopped ≡ false }
         requires room { start + most_bytes ≤ length log.old }
@@ -120,7 +120,8 @@ impl Reader {
 
     // A chunk is handed over, with a log buffer from a start on. The call ends with the first record or bad file that finishes, with an
     // unknown kind, or when the chunk is taken.
-    #[tactic(auto, using(crate::proofs::Calls::stopped_reader, crate::proofs::Calls::early_reader, crate::proofs::Calls::chunk_reader, crate::proofs::Calls::has_room))]
+    // Stays: a log and a start, as in the C call; the start may lie past the log's end, and `handed_to` says what is answered then.
+    #[tactic(auto, using(crate::proofs::Calls::has_room))]
     pub fn read_chunk(&mut self, chunk: &[u8], log: &mut [u8], start: usize) -> Call
         ensures answers { left_by result self.new log.new ≡ handed_to (reader_in self.old) chunk.now log.old start }
         ensures count { result.n < 2 ^ 32 }
@@ -137,13 +138,17 @@ impl Reader {
     }
 
     // What closing answers: a stopped reader is refused, and so is one inside an item.
-    #[tactic(auto, using(crate::proofs::Sound::closes_stopped, crate::proofs::Sound::closes_unsound, crate::proofs::Sound::closes_between, crate::proofs::Sound::closes_inside))]
+    #[tactic(auto, using(crate::proofs::Sound::closes))]
     pub fn close(&self) -> Result<(), Refusal>
         ensures { refused_by result ≡ closing_of (reader_in self.now) }
     {
         if self.stopped || !self.is_sound() {
             return Err(Refusal::Malformed);
         }
-        if self.kept.bytes().is_empty() { Ok(()) } else { Err(Refusal::Cut) }
+        if self.kept.bytes().is_empty() {
+            Ok(())
+        } else {
+            Err(Refusal::Cut)
+        }
     }
 }

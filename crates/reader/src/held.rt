@@ -71,6 +71,7 @@ impl Place {
 }
 
 // The kept bytes of the unfinished item, the latest good file's bytes, none where there is none, and whether an unknown kind was met.
+// Stays: a flag beside the bytes; a stopped reader keeps its file, and WordsAreKept reads that back from its words.
 #[derive(Drop)]
 pub struct Reader {
     pub kept: Place,

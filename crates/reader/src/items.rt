@@ -39,14 +39,14 @@ impl Reader {
     fn kind_of(&self, next: u8) -> u8
         ensures { result ≡ get_or (self.now.kept ++ (next ∷ [])) 0 0 }
     {
-        let kept = self.kept.bytes();
-        if kept.is_empty() { next } else { kept[0] }
+        self.kept.bytes().first().copied().unwrap_or(next)
     }
 
     // An item that is whole: a good file becomes the latest one.
     fn settle(&mut self) -> Brought
         requires { 0 < length self.old.kept }
-        ensures means { (n : ℕ) (c : List ℕ) → onward (taking result n) self.new c ≡ after_item (meaning self.old.file self.old.kept) n c }
+        ensures means { (n : ℕ) (c : List ℕ)
+            → onward (taking result n) self.new c ≡ after_item (meaning self.old.file self.old.kept) n c }
         ensures part { PartIn result self.new.kept }
         ensures stopped { self.new.stopped ≡ self.old.stopped }
     {
@@ -97,7 +97,7 @@ impl Reader {
 
     // A chunk, up to the first item that is answered.
     #[tactic(auto, using(crate::proofs::Turns::all_taken, crate::proofs::Turns::fewer))]
-    pub fn take_items(&mut self, chunk: &[u8]) -> Taking
+    pub(crate) fn take_items(&mut self, chunk: &[u8]) -> Taking
         requires { PartIn Nothing self.old.kept }
         ensures means { closed result self.new ≡ onward (taking Nothing 0) self.old chunk.now }
         ensures through { Through result (length chunk.now) }
@@ -107,6 +107,7 @@ impl Reader {
             brought: Brought::Nothing,
             taken: 0,
         };
+        // Stays: a turn takes as many bytes as its item lacks, and may end the loop; no range and no iterator goes by such steps.
         while t.goes_on(chunk.len()) {
             t = self.take_item(t, chunk);
         }

@@ -117,3 +117,7 @@ all_laid w from old out i e h l =
     ∙ ap (λ (k : ℕ). bytes_from w from k ++ drop (8 * k) old) e
     ∙ ap (λ (x : List ℕ). bytes_from w from place_words ++ x) (drop_of_length-le old h)
     ∙ append-nil (bytes_from w from place_words)
+
+pub ruleset storing = (none_stored, one_stored)
+
+pub ruleset laying = (none_laid, one_laid)

@@ -6,6 +6,7 @@ ghost use Rattle.reader_words.specs.Words.{reader_by, call_bits, handed_words, f
 use crate::words::{reader_in, words_of};
 use streams::Call;
 
+// Stays: no From, which has no `requires`: n must lie in its bits. `as` is for a usize, which has no From to u64.
 fn call_bits(call: Call) -> u64
     requires { call.n < 2 ^ 32 }
     ensures { result ≡ call_bits call }
@@ -16,6 +17,7 @@ fn call_bits(call: Call) -> u64
         + (call.n as u64) * 0x1_0000_0000
 }
 
+// Stays: a number, as the C call answers it; so does `close_words`.
 #[tactic(auto, using(crate::proofs::Holding::fresh_words_lem))]
 pub fn new_words(reader: &mut [u64; 48]) -> u64
     ensures { (result, reader.new) ≡ fresh_words }

@@ -10,7 +10,7 @@ use reader::ITEM_ROOM;
 pub const PLACE_WORDS: usize = 20;
 
 // The bytes of the words from a place on.
-#[tactic(auto, using(crate::proofs::Packing::none_laid, crate::proofs::Packing::one_laid, crate::proofs::Packing::laid_long, crate::proofs::Packing::all_laid))]
+#[tactic(auto, using(crate::proofs::Packing::laying))]
 pub fn unpack(words: &[u64; 48], from: usize) -> [u8; ITEM_ROOM]
     requires { from + place_words ≤ reader_words }
     ensures { result ≡ bytes_in words.now from }
@@ -23,7 +23,7 @@ pub fn unpack(words: &[u64; 48], from: usize) -> [u8; ITEM_ROOM]
 }
 
 // The words of bytes, from a place on, with zeros behind the bytes.
-#[tactic(auto, using(crate::proofs::Packing::none_stored, crate::proofs::Packing::one_stored, crate::proofs::Packing::all_stored, crate::proofs::Packing::padded))]
+#[tactic(auto, using(crate::proofs::Packing::storing))]
 pub fn pack(words: &mut [u64; 48], from: usize, bytes: &[u8])
     requires { (from + place_words ≤ reader_words) × (length bytes.now ≤ item_room) }
     ensures { words.new ≡ sets words.old from (words_in bytes.now) }

@@ -12,6 +12,7 @@ const FILE: usize = 41;
 const STOPPED: usize = 42;
 
 // The words of a reader.
+// Stays: no From, here and in `reader_in`: neither the words nor the reader is a type of this crate. `as` is for a usize, which has none.
 #[tactic(auto, using(crate::proofs::Ordered::written))]
 pub fn words_of(r: &Reader) -> [u64; 48]
     ensures { result ≡ words_of (reader_with r.now) }
