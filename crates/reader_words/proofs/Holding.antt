@@ -1,7 +1,7 @@
 -- Which reader words are. Assumes nothing.
-use Prim.Native.Nat.{ℕ, ◌≤◌, ◌<◌}
+use Prim.Native.Nat.{ℕ, ◌<◌}
 use native.Mathlib.Omega.{arith}
-use borrow.Author.Tests.{ltb-true, ltb-false, le-ltb, ne_eqb}
+use borrow.Author.Tests.{ltb-true, le-ltb, ne_eqb}
 use mathlib.Core.Path.{◌≡◌, refl, sym, ap, ap₂, ◌∙◌}
 use mathlib.Core.List.{List, []}
 use mathlib.Core.Bool.{Bool, true, false, true≢false, cond, ◌&&◌, ◌||◌}
@@ -9,13 +9,12 @@ use lib.ListN.{length, get_or, take, replicate, length-take}
 use lib.Dec.{ltb, eqb}
 use lib.Pointwise.{pointwise, bytes_decides}
 use Rattle.laws.specs.Words.{number_at}
-use Rattle.laws.proofs.Choice.{and_left, and_right}
-use Rattle.std.specs.Prelude.{Option, Some, None}
+use Rattle.std.specs.Prelude.{Some, None}
 use Rattle.registers.specs.Files.{numbers_from, is_file}
 use Rattle.streams.specs.Cuts.{halted, closing_of}
 use Rattle.streams.specs.Streams.{StreamReader, length_of, fresh, close}
 use Rattle.reader.specs.Places.{item_room}
-use Rattle.reader.specs.Held.{is_part, is_latest, reader_with, reader_in, Handed, left_by}
+use Rattle.reader.specs.Held.{is_part, is_latest, reader_with, reader_in}
 use Rattle.reader.specs.declared.held.Reader.{Reader}
 use Rattle.reader.proofs.Sound.{kind_short, file_short}
 use Rattle.reader_words.specs.Words.{reader_words, place_words, bytes_in, words_in, words_of, numbers_in, told_in, told_by, same_words, reader_by, closed_words}

@@ -5,7 +5,7 @@ use borrow.Author.Tests.{eq-eqb, eqb-true, eqb-false}
 use mathlib.Core.Path.{◌≡◌, refl, sym, ap, ◌∙◌}
 use mathlib.Core.List.{List, [], ◌∷◌, ◌++◌, append_assoc}
 use mathlib.Core.Bool.{Bool, true, false, cond}
-use lib.ListN.{length, get_or, take, drop, set, replicate, length-append, length-replicate}
+use lib.ListN.{length, get_or, drop, set, replicate, length-append, length-replicate}
 use lib.Seq.{sets, sets-eq, take_at, drop-append-add, ext_get_or}
 use lib.Dec.{eqb}
 use mir.Val.{bool_byte as from_bool}

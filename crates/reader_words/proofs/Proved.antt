@@ -2,16 +2,15 @@
 use Prim.Native.Nat.{ℕ, zero, suc, ◌+◌, ◌-◌, ◌*◌, ◌/◌, ◌%◌, ◌≤◌, ◌<◌}
 use native.Mathlib.Nat.{add-zero, zero-add}
 use native.Mathlib.Omega.{arith}
-use borrow.Author.Tests.{eq-eqb, lt-ltb, eqb-true, eqb-false}
+use borrow.Author.Tests.{eq-eqb, lt-ltb}
 use mathlib.Core.Path.{◌≡◌, refl, sym, ap, ap₂, ◌∙◌}
 use mathlib.Core.Logic.{⊎_elim, ◌⊎◌, inl, inr}
 use mathlib.Core.List.{List, [], ◌∷◌, ◌++◌}
 use mathlib.Core.Bool.{Bool, true, false, cond, not, ◌||◌}
-use lib.ListN.{length, get_or, take, replicate, length-append, get_or-append}
-use lib.Seq.{get_or-append-add, ext_get_or}
+use lib.ListN.{length, get_or, take, replicate, get_or-append}
+use lib.Seq.{get_or-append-add}
 use lib.Dec.{eqb}
 use Rattle.laws.specs.Words.{number_at, little}
-use Rattle.laws.proofs.Choice.{and_left, and_right}
 use Rattle.registers.specs.Files.{numbers_from, is_file}
 use Rattle.event.specs.Held.{Bytes}
 use Rattle.streams.specs.Cuts.{halted}

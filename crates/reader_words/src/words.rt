@@ -8,7 +8,9 @@ use reader::{Place, Reader};
 
 // Where the numbers stand: how many bytes each place has, and whether the reader has stopped.
 const KEPT: usize = 40;
+
 const FILE: usize = 41;
+
 const STOPPED: usize = 42;
 
 // The words of a reader.

@@ -1,4 +1,4 @@
-use Rattle.std.proofs.Common.{arith, refl, ◌≡◌}
+use Rattle.std.proofs.Common.{arith, ◌≡◌}
 use Rattle.reader_words.specs.Words.{place_words}
 use Rattle.reader_words.proofs.Packing.{all_laid}
 use Rattle.reader_words.proofs.places.unpack.Goals as goal

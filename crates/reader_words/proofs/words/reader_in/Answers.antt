@@ -12,6 +12,6 @@ returns c =
     stopped_is _ c.new.ensures c.new-2.ensures refl
     ∙ sym
     (elim c.match-told_in.branch [
-      in-Some+else-eq w ↦ held_by_none c.args.words.now w.in-Some.told (sym c.told_in.ensures ∙ w.in-Some.is) w.words_of.result w.words_of.ensures c.told-words (sym w.eq.ensures ∙ w.if-eq.false)
+      | in-Some+else-eq w ↦ held_by_none c.args.words.now w.in-Some.told (sym c.told_in.ensures ∙ w.in-Some.is) w.words_of.result w.words_of.ensures c.told-words (sym w.eq.ensures ∙ w.if-eq.false)
       | in_default w ↦ none_told c.args.words.now (λ x e. w.in_default.not-Some x (c.told_in.ensures ∙ e))
     ])
