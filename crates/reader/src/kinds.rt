@@ -2,9 +2,10 @@
 ghost use Rattle.std.specs.Prelude.{◌≡◌, ◌<◌};
 ghost use Rattle.registers.specs.Files.{is_file};
 ghost use Rattle.streams.specs.Streams.{length_of, of_file};
-ghost use Rattle.reader.specs.Held.{item_room};
+ghost use Rattle.reader.specs.Places.{item_room};
 
 // Whether a kind is a file's.
+// Stays: a kind is a byte of the stream, any byte, as in `of_file` and `length_of` of crate streams.
 pub fn of_file(kind: u8) -> bool
     ensures { result ≡ of_file kind }
 {
@@ -13,6 +14,7 @@ pub fn of_file(kind: u8) -> bool
 }
 
 // How long an item of a kind is; 0 for an unknown kind.
+// Stays: 0 and no Option, as `length_of` of crate streams has it: no bytes are shorter, so that `is_part` needs no case for it.
 pub fn length_of(kind: u8) -> usize
     ensures { (result ≡ length_of kind) × (result < item_room) }
 {

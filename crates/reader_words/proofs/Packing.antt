@@ -8,7 +8,6 @@ use mathlib.Core.List.{List, [], ◌∷◌, ◌++◌, append-nil, append_assoc}
 use lib.ListN.{length, get_or, drop, set, replicate, length-append, drop_of_length-le}
 use lib.Seq.{sets, get_or-drop}
 use Rattle.laws.specs.Words.{number_at, little}
-use Rattle.laws.specs.Lending.{splice}
 use Rattle.laws.proofs.Lending.{part, back, laid, laid_length}
 use Rattle.laws.proofs.Numbers.{little_length}
 use Rattle.registers.specs.Files.{numbers_from}
@@ -69,11 +68,11 @@ zero_at zero i = refl
 zero_at (suc n) zero = refl
 zero_at (suc n) (suc i) = zero_at n i
 
-pub padded : (n : ℕ) (x : List ℕ) → words_in (splice (replicate n 0) 0 x) ≡ words_in x
-unfolding words_in splice
+pub padded : (n : ℕ) (x : List ℕ) → words_in (x ++ drop (length x) (replicate n 0)) ≡ words_in x
+unfolding words_in
 padded n x =
-    same_numbers (x ++ drop (0 + length x) (replicate n 0)) x
-    (zeros_behind x (drop (0 + length x) (replicate n 0)) (λ j. get_or-drop (0 + length x) (replicate n 0) j 0 ∙ zero_at n (0 + length x + j)))
+    same_numbers (x ++ drop (length x) (replicate n 0)) x
+    (zeros_behind x (drop (length x) (replicate n 0)) (λ j. get_or-drop (length x) (replicate n 0) j 0 ∙ zero_at n (length x + j)))
     0 place_words
 
 -- BYTES FROM WORDS
@@ -118,3 +117,7 @@ all_laid w from old out i e h l =
     ∙ ap (λ (k : ℕ). bytes_from w from k ++ drop (8 * k) old) e
     ∙ ap (λ (x : List ℕ). bytes_from w from place_words ++ x) (drop_of_length-le old h)
     ∙ append-nil (bytes_from w from place_words)
+
+pub ruleset storing = (none_stored, one_stored)
+
+pub ruleset laying = (none_laid, one_laid)
