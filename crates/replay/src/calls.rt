@@ -2,6 +2,7 @@
 ghost use Rattle.std.specs.Prelude.{◌≡◌, ℕ, ◌<◌, true, length, slice_index};
 ghost use Rattle.replay.specs.Left.{left_at};
 
+use crate::call::Call;
 use crate::cases::Head;
 
 // No call answers this, and no list holds it.
@@ -26,15 +27,15 @@ fn is_same_on(buffer: &mut [u8], head: Head, subject: &[u8], file: &[u8], writte
     is_left(buffer, start, written)
 }
 
-fn answer(call: u8, subject: &[u8], file: &[u8], lent: &mut [u8], start: usize) -> u64 {
+fn answer(call: Option<Call>, subject: &[u8], file: &[u8], lent: &mut [u8], start: usize) -> u64 {
     match call {
-        1 => machhurel::machhurel_visit(subject, file, lent, start),
-        2 => machhurel::machhurel_listing(subject, lent, start),
-        3 => machhurel::machhurel_digest(subject),
-        4 => machhurel::machhurel_privilege(subject),
-        5 => machhurel::machhurel_exceptions(subject),
-        6 => machhurel::machhurel_event(subject, start),
-        _ => NO_ANSWER,
+        Some(Call::Visit) => machhurel::machhurel_visit(subject, file, lent, start),
+        Some(Call::Listing) => machhurel::machhurel_listing(subject, lent, start),
+        Some(Call::Digest) => machhurel::machhurel_digest(subject),
+        Some(Call::Privilege) => machhurel::machhurel_privilege(subject),
+        Some(Call::Exceptions) => machhurel::machhurel_exceptions(subject),
+        Some(Call::Event) => machhurel::machhurel_event(subject, start),
+        None => NO_ANSWER,
     }
 }
 
@@ -42,12 +43,10 @@ fn answer(call: u8, subject: &[u8], file: &[u8], lent: &mut [u8], start: usize) 
 fn is_left(buffer: &[u8], start: usize, written: &[u8]) -> bool
     ensures { result ≡ true → (k : ℕ) → k < length buffer.now → slice_index buffer.now k ≡ left_at start written.now k }
 {
-    let mut i = 0;
-    while i < buffer.len() {
-        if buffer[i] != left_at(start, written, i) {
+    for (i, b) in buffer.iter().enumerate() {
+        if *b != left_at(start, written, i) {
             return false;
         }
-        i += 1;
     }
     true
 }

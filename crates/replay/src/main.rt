@@ -6,6 +6,7 @@
 //     cargo run --release --offline --bin list > ../crates/replay/data/answers.list
 #![tactic(auto)]
 
+mod call;
 mod calls;
 mod cases;
 mod files;
