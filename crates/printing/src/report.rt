@@ -20,12 +20,9 @@ fn put_counts(
     requires { (size word_bytes (count_lines letter.now base first count words.now) ≤ length out.old) × (base + first + count ≤ sheet_words) }
     ensures { Logged word_bytes (count_lines letter.now base first count words.now) out.old out.new result }
 {
-    let end = first + count;
     let mut n = 0;
-    let mut k = first;
-    while k < end {
-        n = n + put_count(&mut out[n..], letter, k as u64, words[base + k]);
-        k = k + 1;
+    for k in first..first + count {
+        n += put_count(&mut out[n..], letter, k as u64, words[base + k]);
     }
     n
 }

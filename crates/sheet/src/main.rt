@@ -2,7 +2,7 @@
 // anything is printed, in blocks, so that it may be larger than memory.
 #![tactic(auto)]
 
-ghost use Rattle.std.specs.Prelude.{◌≡◌, ◌≤◌, IfOk, OnErr, length};
+ghost use Rattle.std.specs.Prelude.{◌≡◌, ◌≤◌, IfOk, IfSome, OnErr, length};
 ghost use Rattle.totals.specs.Sheets.{most_log_bytes};
 ghost use Rattle.filing.specs.Feeds.{Ready};
 
@@ -18,31 +18,25 @@ const REPORT_BYTES: usize = 4096;
 
 const BLOCK_BYTES: usize = 65536;
 
-// The feed after a block; whether there may be more.
-#[derive(Clone, Copy)]
-struct Turn {
-    feed: Feed,
-    more: bool,
-}
-
-// One block more. No contract can say what is read: what is kept is that the feed stays ready.
+// The feed after one block more; none where the file has ended. No contract can say what is read: what is kept is that the feed stays
+// ready.
 fn take_block(
     file: &mut File,
     f: Feed,
     words: &mut [u64; WORDS],
     carry: &mut [u8],
     block: &mut [u8],
-) -> io::Result<Turn>
+) -> io::Result<Option<Feed>>
     requires { Ready f carry.old }
-    ensures ok { IfOk result (λ t. Ready t.feed carry.new) }
+    ensures ok { IfOk result (λ more. IfSome more (λ g. Ready g carry.new)) }
+    ensures end { result ≡ Ok None → (words.new ≡ words.old) × (carry.new ≡ carry.old) }
     ensures err { OnErr result ((words.new ≡ words.old) × (carry.new ≡ carry.old)) }
 {
     let n = file.read(block)?;
-    let feed = filing::feed_block(f, words, carry, &block[..n]);
-    Ok(Turn {
-        feed: feed,
-        more: 0 < n,
-    })
+    if n == 0 {
+        return Ok(None);
+    }
+    Ok(Some(filing::feed_block(f, words, carry, &block[..n])))
 }
 
 // All of them: no run uses the turns up.
@@ -56,11 +50,10 @@ fn take_all(
 {
     let mut f = filing::begin();
     for _ in 0..u64::MAX {
-        let t = take_block(file, f, words, carry, block)?;
-        f = t.feed;
-        if !t.more {
+        let Some(g) = take_block(file, f, words, carry, block)? else {
             return Ok(f);
-        }
+        };
+        f = g;
     }
     Err(io::Error::other("no end"))
 }
