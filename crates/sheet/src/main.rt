@@ -18,44 +18,42 @@ const REPORT_BYTES: usize = 4096;
 
 const BLOCK_BYTES: usize = 65536;
 
-// The feed after one block more; none where the file has ended. No contract can say what is read: what is kept is that the feed stays
-// ready.
-fn take_block(
-    file: &mut File,
-    f: Feed,
-    words: &mut [u64; WORDS],
-    carry: &mut [u8],
-    block: &mut [u8],
-) -> io::Result<Option<Feed>>
-    requires { Ready f carry.old }
-    ensures ok { IfOk result (λ more. IfSome more (λ g. Ready g carry.new)) }
-    ensures end { result ≡ Ok None → (words.new ≡ words.old) × (carry.new ≡ carry.old) }
-    ensures err { OnErr result ((words.new ≡ words.old) × (carry.new ≡ carry.old)) }
-{
-    let n = file.read(block)?;
-    if n == 0 {
-        return Ok(None);
-    }
-    Ok(Some(filing::feed_block(f, words, carry, &block[..n])))
+// What a file is read into: the sheet's words, the bytes of the part under way, and a block of the file.
+#[derive(Drop)]
+struct Room {
+    words: [u64; WORDS],
+    carry: [u8; BLOCK_BYTES],
+    block: [u8; BLOCK_BYTES],
 }
 
-// All of them: no run uses the turns up.
-fn take_all(
-    file: &mut File,
-    words: &mut [u64; WORDS],
-    carry: &mut [u8],
-    block: &mut [u8],
-) -> io::Result<Feed>
-    requires { most_log_bytes ≤ length carry.old }
-{
-    let mut f = filing::begin();
-    for _ in 0..u64::MAX {
-        let Some(g) = take_block(file, f, words, carry, block)? else {
-            return Ok(f);
-        };
-        f = g;
+impl Room {
+    // The feed after one block more; none where the file has ended. No contract can say what is read: what is kept is that the feed
+    // stays ready.
+    fn take_block(&mut self, file: &mut File, f: Feed) -> io::Result<Option<Feed>>
+        requires { Ready f self.old.carry }
+        ensures ok { IfOk result (λ more. IfSome more (λ g. Ready g self.new.carry)) }
+        ensures end { result ≡ Ok None → (self.new.words ≡ self.old.words) × (self.new.carry ≡ self.old.carry) }
+        ensures err { OnErr result ((self.new.words ≡ self.old.words) × (self.new.carry ≡ self.old.carry)) }
+    {
+        let n = file.read(&mut self.block)?;
+        if n == 0 {
+            return Ok(None);
+        }
+        let g = filing::feed_block(f, &mut self.words, &mut self.carry, &self.block[..n]);
+        Ok(Some(g))
     }
-    Err(io::Error::other("no end"))
+
+    // All of them: no run uses the turns up.
+    fn take_all(&mut self, file: &mut File) -> io::Result<Feed> {
+        let mut f = filing::begin();
+        for _ in 0..u64::MAX {
+            let Some(g) = self.take_block(file, f)? else {
+                return Ok(f);
+            };
+            f = g;
+        }
+        Err(io::Error::other("no end"))
+    }
 }
 
 fn print(rt: &impl Print, f: Feed, words: &[u64; WORDS]) -> io::Result<()> {
@@ -68,11 +66,13 @@ fn print(rt: &impl Print, f: Feed, words: &[u64; WORDS]) -> io::Result<()> {
 // Reads the file and prints the sheet.
 fn print_file(rt: &HostRuntime, path: &str) -> io::Result<()> {
     let mut file = File::open(rt, path)?;
-    let mut words = [0u64; WORDS];
-    let mut carry = laws::zeros::<BLOCK_BYTES>();
-    let mut block = laws::zeros::<BLOCK_BYTES>();
-    let f = take_all(&mut file, &mut words, &mut carry, &mut block)?;
-    print(rt, f, &words)
+    let mut room = Room {
+        words: [0u64; WORDS],
+        carry: laws::zeros(),
+        block: laws::zeros(),
+    };
+    let f = room.take_all(&mut file)?;
+    print(rt, f, &room.words)
 }
 
 fn main(rt: HostRuntime) -> io::Result<()> {
