@@ -8,23 +8,15 @@ use crate::cases::Head;
 // No call answers this, and no list holds it.
 const NO_ANSWER: u64 = u64::MAX;
 
-// Whether the call answers what it must, and leaves what is lent as it must. `subject` is a record or a log.
+// Whether the call answers what it must, and leaves what is lent as it must. `subject` is a record or a log. The front of the buffer is
+// lent. What stands behind it is looked at too.
 pub(crate) fn is_same(head: Head, subject: &[u8], file: &[u8], written: &[u8]) -> bool {
     let mut buffer = [0xA5; 512];
-    is_same_on(&mut buffer, head, subject, file, written)
-}
-
-// The front of the buffer is lent. What stands behind it is looked at too.
-fn is_same_on(buffer: &mut [u8], head: Head, subject: &[u8], file: &[u8], written: &[u8]) -> bool {
-    let room = head.room as usize;
     let start = head.start as usize;
-    if buffer.len() < room {
+    let Some(lent) = buffer.get_mut(..head.room as usize) else {
         return false;
-    }
-    if answer(head.call, subject, file, &mut buffer[..room], start) != head.answer {
-        return false;
-    }
-    is_left(buffer, start, written)
+    };
+    answer(head.call, subject, file, lent, start) == head.answer && is_left(&buffer, start, written)
 }
 
 fn answer(call: Option<Call>, subject: &[u8], file: &[u8], lent: &mut [u8], start: usize) -> u64 {
