@@ -5,7 +5,8 @@ ghost use Rattle.replay.specs.Left.{left_at};
 use crate::call::Call;
 use crate::cases::Head;
 
-// No call answers this, and no list holds it.
+// No call answers this, and no list of the oracle holds it.
+// Stays: an Option would tell a number of no call from a list that holds this beside it, which today is no difference.
 const NO_ANSWER: u64 = u64::MAX;
 
 // Whether the call answers what it must, and leaves what is lent as it must. `subject` is a record or a log. The front of the buffer is

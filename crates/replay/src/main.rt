@@ -42,6 +42,7 @@ fn room_for_list() -> [u8; 600000]
 }
 
 // Reads until the file ends or the room is full, and answers how many bytes stand at its front.
+// Stays: std's reading to a file's end fills a Vec, and there is no heap here; `read_exact` refuses a file that is shorter.
 fn read_list(file: &mut File, room: &mut [u8]) -> io::Result<usize>
     ensures { IfOk result (λ n. n ≤ length room.new) }
 {

@@ -15,7 +15,8 @@ pub(crate) fn difference(rt: &impl Print, number: u32, call: Option<Call>) -> io
 }
 
 pub(crate) fn tally(rt: &impl Print, seen: Tally, cases: u32, end: usize) -> io::Result<()> {
-    for (call, n) in CALLS.iter().zip(seen.calls) {
+    for call in CALLS {
+        let n = seen.count(call);
         println!(rt; "{call} {n}")?;
     }
     ending(rt, seen.at, end)?;

@@ -3,7 +3,7 @@ use crate::call::Call;
 use crate::cases::{case_at, holds};
 use std::io;
 
-// The place of the next case; how many cases each call of `CALLS` had; how many differ.
+// The place of the next case; how many cases each call had, in the order of their numbers; how many differ.
 #[derive(Clone, Copy)]
 pub struct Tally {
     pub at: usize,
@@ -12,6 +12,11 @@ pub struct Tally {
 }
 
 impl Tally {
+    // How many cases a call had.
+    pub(crate) fn count(self, call: Call) -> u64 {
+        self.calls[call as usize - 1]
+    }
+
     fn passed(mut self, call: Option<Call>, next: usize) -> Self {
         self.at = next;
         if let Some(call) = call {
