@@ -1,4 +1,5 @@
 // A sheet's file, byte by byte. The bytes of the part under way stand at the front of a buffer that the caller lends.
+// Stays: there is no heap, so these bytes are no Vec, and how many they are stands in the feed.
 ghost use Rattle.std.specs.Prelude.{◌≡◌, ◌≤◌, ◌<◌, length};
 ghost use Rattle.filing.specs.Feeds.{header_bytes, length_bytes, part_size, start_feed, waiting_feed, headed, logged, sized, completed, state_of, is_full, pushed, fed, Ready, end_number};
 ghost use Rattle.laws.specs.Words.{number_at};
@@ -19,6 +20,7 @@ pub enum Part {
 }
 
 // The part under way and how many of its bytes there are; or the number that was refused.
+// Stays: `new_of` and `add_of` of totals say which number it is.
 #[derive(Clone, Copy)]
 pub enum Feed {
     Reading { part: Part, have: usize },
@@ -143,6 +145,7 @@ pub fn feed_block(f: Feed, words: &mut [u64; WORDS], carry: &mut [u8], block: &[
 }
 
 // At the end of the file: the number that was refused, 1 where a part is cut.
+// Stays: the theorem FileIsRead is about this number, which is 0 where nothing was refused.
 #[tactic(auto, unfolding(crate::specs::Feeds::end_number))]
 pub fn end_number(f: Feed) -> u64
     ensures { result ≡ end_number f }

@@ -1,4 +1,5 @@
 // The sheet's lines, or its refusal.
+// Stays: document 01's form, a writer is lent the part of the buffer behind what was written so far.
 ghost use Rattle.std.specs.Prelude.{◌+◌, ◌≤◌, length};
 ghost use Rattle.laws.specs.Lending.{size, Logged};
 ghost use Rattle.decimal.specs.Words.{word_bytes};
@@ -56,6 +57,7 @@ fn put_sheet(out: &mut [u8], words: &[u64; WORDS]) -> usize
 }
 
 // The sheet, or the number that was refused.
+// Stays: the number is the one of the theorem FileIsRead, and `report_text` is said of it; 0 is no refusal.
 pub fn put_report(out: &mut [u8], number: u64, words: &[u64; WORDS]) -> usize
     requires { size word_bytes (report_text number words.now) ≤ length out.old }
     ensures { Logged word_bytes (report_text number words.now) out.old out.new result }

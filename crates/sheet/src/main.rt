@@ -2,8 +2,7 @@
 // anything is printed, in blocks, so that it may be larger than memory.
 #![tactic(auto)]
 
-ghost use Rattle.std.specs.Prelude.{◌≡◌, ◌≤◌, IfOk, IfSome, OnErr, length};
-ghost use Rattle.totals.specs.Sheets.{most_log_bytes};
+ghost use Rattle.std.specs.Prelude.{◌≡◌, IfOk, IfSome, OnErr};
 ghost use Rattle.filing.specs.Feeds.{Ready};
 
 use filing::Feed;
