@@ -2,11 +2,11 @@
 use Prim.Native.Nat.{ℕ, ◌+◌, ◌≤◌, ◌<◌}
 use native.Mathlib.Numerals.{add-one}
 use native.Mathlib.Omega.{arith}
-use mathlib.Core.Path.{◌≡◌, refl, sym, ap, ◌∙◌}
+use mathlib.Core.Path.{◌≡◌, refl, ap, ◌∙◌}
 use mathlib.Core.Bool.{Bool, true, false, cond}
 use mathlib.Core.List.{List, [], ◌∷◌, ◌++◌}
-use lib.ListN.{length, get_or, take, drop, set, length-set, drop_of_length-le}
-use lib.Seq.{length-take-le, take-suc-set, drop-cons}
+use lib.ListN.{length, get_or, take, drop, set, drop_of_length-le}
+use lib.Seq.{take-suc-set, drop-cons}
 use lib.Dec.{eqb, ltb}
 use borrow.Author.Tests.{eqb-false, lt-ltb, le-ltb, ltb-false}
 use Rattle.laws.specs.Words.{number_at}
@@ -20,9 +20,6 @@ use Rattle.filing.specs.Feeds.{part_size, waiting_feed, headed, logged, sized, c
 -- one byte more at the end of what is pending
 pub pending_grown : (carry : List ℕ) (i b : ℕ) → i < length carry → take (i + 1) (set carry i b) ≡ take i carry ++ (b ∷ [])
 pending_grown carry i b h = rw add-one (take-suc-set carry i b h)
-
-pub item_long : (carry : List ℕ) (i b n : ℕ) → i < length carry → n ≡ i + 1 → length (take (i + 1) (set carry i b)) ≡ n
-item_long carry i b n h e = let l = length-set carry i b in length-take-le (i + 1) (set carry i b) (omega arith) ∙ sym e
 
 -- a part that begins: it has none of its bytes yet, and room for them
 pub record Begun (f : Feed) : Type 0 where

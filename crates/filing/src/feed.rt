@@ -2,8 +2,10 @@
 // Stays: there is no heap, so these bytes are no Vec, and how many they are stands in the feed.
 ghost use Rattle.std.specs.Prelude.{◌≡◌, ◌≤◌, ◌<◌, length};
 ghost use Rattle.filing.specs.Feeds.{header_bytes, length_bytes, part_size, start_feed, waiting_feed, headed, logged, sized, completed, state_of, is_full, pushed, fed, Ready, end_number};
+ghost use Rattle.laws.specs.Refusals.{refusal_number};
 ghost use Rattle.laws.specs.Words.{number_at};
 
+use laws::Refusal;
 use totals::{LOGS, MOST_LOG_BYTES, MOST_LOGS, WORDS};
 
 // The bytes of a header, and of a log's length.
@@ -20,7 +22,7 @@ pub enum Part {
 }
 
 // The part under way and how many of its bytes there are; or the number that was refused.
-// Stays: `new_of` and `add_of` of totals say which number it is.
+// Stays: the number is the one that totals answers, and C calls totals.
 #[derive(Clone, Copy)]
 pub enum Feed {
     Reading { part: Part, have: usize },
@@ -44,6 +46,12 @@ fn size_of(part: Part) -> usize
         Part::Length => LENGTH_BYTES,
         Part::Log(n) => n,
     }
+}
+
+fn number_of(refusal: Refusal) -> u64
+    ensures { result ≡ refusal_number refusal }
+{
+    u64::from(u8::from(refusal))
 }
 
 // The next log's length is awaited, or a number was refused.
@@ -82,7 +90,7 @@ fn take_length(words: &mut [u64; WORDS], item: &[u8]) -> Feed
 {
     let n = laws::u32_at(item, 0) as usize;
     if MOST_LOG_BYTES < n {
-        return Feed::Refused(2);
+        return Feed::Refused(number_of(Refusal::Outside));
     }
     if n == 0 {
         return take_log(words, &[]);
@@ -122,7 +130,7 @@ fn push(f: Feed, words: &mut [u64; WORDS], carry: &mut [u8], b: u8) -> Feed
         return f;
     };
     if is_full(part, have, words) {
-        return Feed::Refused(10);
+        return Feed::Refused(number_of(Refusal::Full));
     }
     carry[have] = b;
     let next = have + 1;
@@ -156,6 +164,6 @@ pub fn end_number(f: Feed) -> u64
             part: Part::Length,
             have: 0,
         } => 0,
-        Feed::Reading { .. } => 1,
+        Feed::Reading { .. } => number_of(Refusal::Malformed),
     }
 }
