@@ -4,6 +4,7 @@ ghost use Rattle.std.specs.Prelude.{◌∷◌, [], ◌≤◌, length};
 ghost use Rattle.laws.specs.Lending.{size, Logged};
 ghost use Rattle.decimal.specs.Words.{letters, decimal, word_bytes};
 
+#[tactic(auto, using(crate::proofs::Sizes::letters_size, crate::proofs::Sizes::front_long))]
 pub fn put(out: &mut [u8], t: &[u8]) -> usize
     requires { size word_bytes (letters t.now ∷ []) ≤ length out.old }
     ensures { Logged word_bytes (letters t.now ∷ []) out.old out.new result }

@@ -26,6 +26,7 @@ fn main(rt: HostRuntime) -> io::Result<()> {
     let path = "answers.list";
     match File::open(&rt, path) {
         Ok(mut file) => {
+            // Stays: there is no heap, so the list is no Vec.
             let mut bytes = room_for_list();
             let n = read_list(&mut file, &mut bytes)?;
             replay(&rt, &bytes[..n])

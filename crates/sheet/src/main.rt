@@ -55,6 +55,7 @@ impl Room {
     }
 }
 
+// Stays: there is no heap, so the text is no String, and how many bytes it has stands beside it.
 fn print(rt: &impl Print, f: Feed, words: &[u64; WORDS]) -> io::Result<()> {
     let number = filing::end_number(f);
     let mut out = laws::zeros::<REPORT_BYTES>();
@@ -75,6 +76,7 @@ fn print_file(rt: &HostRuntime, path: &str) -> io::Result<()> {
 }
 
 fn main(rt: HostRuntime) -> io::Result<()> {
+    // Stays: there is no heap, so the file's name is no String.
     let mut room = [0u8; 4096];
     let n = match rt.arg(1, &mut room) {
         Ok(n) => n,
