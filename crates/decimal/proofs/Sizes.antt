@@ -4,7 +4,8 @@ use native.Mathlib.Nat.{le_refl}
 use native.Mathlib.Omega.{arith}
 use mathlib.Core.Path.{◌≡◌}
 use mathlib.Core.List.{List, [], ◌∷◌}
-use lib.ListN.{length}
+use lib.ListN.{length, take}
+use lib.Seq.{length-take-le}
 use lib.Dec.{ltb}
 use Rattle.laws.specs.Lending.{size}
 use Rattle.laws.proofs.OneByOne.{one_size}
@@ -22,6 +23,10 @@ places_few (suc limit) n =
 pub letters_size : (t : List ℕ) → size word_bytes (letters t ∷ []) ≡ length t
 unfolding word_bytes
 letters_size t = one_size word_bytes (letters t)
+
+-- the front of a buffer that letters are copied to
+pub front_long : (t out : List ℕ) → size word_bytes (letters t ∷ []) ≤ length out → length (take (length t) out) ≡ length t
+front_long t out h = length-take-le (length t) out (omega (arith, letters_size t))
 
 pub decimal_size : (n : ℕ) → size word_bytes (decimal n ∷ []) ≤ 20
 unfolding word_bytes

@@ -12,48 +12,49 @@ use Rattle.laws.specs.Words.{number_at}
 use Rattle.totals.specs.Sheets.{logs_word, most_logs, most_log_bytes, add_of, new_of}
 use Rattle.filing.specs.declared.feed.Part.{Part}
 use Rattle.filing.specs.declared.feed.Part.TheVariants.{Header, Length, Log}
-use Rattle.filing.specs.Feeds.{header_bytes, length_bytes, part_size, waiting_feed, waiting, headed, logged, sized, completed, State, emptied, is_full_by, is_full, pushed, fed, end_number}
+use Rattle.filing.specs.declared.feed.Feed.TheVariants.{Reading, Refused}
+use Rattle.filing.specs.Feeds.{header_bytes, length_bytes, part_size, waiting, headed, logged, sized, completed, State, emptied, is_full, pushed, fed, end_number}
 use Rattle.filing.specs.Files.{onward, logs_in, file_from, start, FileIsRead}
 
 -- the state inside a part
 abbrev at : Part → List ℕ → List ℕ → State
-at part w p = record { feed = record { part = part; have = length p; number = 0 }; words = w; pending = p }
+at part w p = record { feed = Reading part (length p); words = w; pending = p }
 
 abbrev outcome : State → ℕ × List ℕ
 outcome s = (end_number s.feed, s.words)
 
 -- after a refusal nothing changes
-fed_refused : (s : State) (l : List ℕ) → (s.feed.number ≡ 0 → ⊥) → fed s l ≡ s
+fed_refused : (k : ℕ) (w p l : List ℕ) → fed (record { feed = Refused k; words = w; pending = p }) l ≡ record { feed = Refused k; words = w; pending = p }
 unfolding fed pushed
-fed_refused s [] h = refl
-fed_refused s (b ∷ l) h = ap (λ (t : State). fed t l) (rw (ne_eqb s.feed.number 0 h)) ∙ fed_refused s l h
+fed_refused k w p [] = refl
+fed_refused k w p (b ∷ l) = fed_refused k w p l
 
 one_more : (p : List ℕ) (b : ℕ) → length (p ++ (b ∷ [])) ≡ length p + 1
 one_more p b = length-append p (b ∷ [])
 
 module _ (part : Part) (w : List ℕ) where
-  open_more : (p : List ℕ) (b : ℕ) → is_full_by part (length (p ++ (b ∷ []))) w ≡ false
+  open_more : (p : List ℕ) (b : ℕ) → is_full part (length (p ++ (b ∷ []))) w ≡ false
   open_more p b = go part
     where
-      go : (x : Part) → is_full_by x (length (p ++ (b ∷ []))) w ≡ false
+      go : (x : Part) → is_full x (length (p ++ (b ∷ []))) w ≡ false
       go Header = refl
       go Length = rw (ne_eqb (length (p ++ (b ∷ []))) 0 (λ e. omega (arith, one_more p b)))
       go (Log n) = refl
 
   push_grow :
-      (p : List ℕ) (b : ℕ) → is_full_by part (length p) w ≡ false → length p + 1 < part_size part
+      (p : List ℕ) (b : ℕ) → is_full part (length p) w ≡ false → length p + 1 < part_size part
       → pushed (at part w p) b ≡ at part w (p ++ (b ∷ []))
-  unfolding pushed is_full
+  unfolding pushed
   push_grow p b o h = rw (o, lt-ltb (length p + 1) (part_size part) h, one_more p b)
 
   push_complete :
-      (p : List ℕ) (b : ℕ) → is_full_by part (length p) w ≡ false → part_size part ≤ length p + 1
+      (p : List ℕ) (b : ℕ) → is_full part (length p) w ≡ false → part_size part ≤ length p + 1
       → pushed (at part w p) b ≡ emptied (completed part w (p ++ (b ∷ [])))
-  unfolding pushed is_full
+  unfolding pushed
   push_complete p b o h = rw (o, le-ltb (length p + 1) (part_size part) h)
 
   -- bytes that do not make the part whole
-  gather : (l p : List ℕ) → is_full_by part (length p) w ≡ false → length p + length l < part_size part → fed (at part w p) l ≡ at part w (p ++ l)
+  gather : (l p : List ℕ) → is_full part (length p) w ≡ false → length p + length l < part_size part → fed (at part w p) l ≡ at part w (p ++ l)
   unfolding fed
   gather [] p o h = rw (append-nil p)
   gather (b ∷ l) p o h =
@@ -63,7 +64,7 @@ module _ (part : Part) (w : List ℕ) where
 
   -- bytes that do
   finish :
-      (l p more : List ℕ) → is_full_by part (length p) w ≡ false → 0 < length l → length p + length l ≡ part_size part
+      (l p more : List ℕ) → is_full part (length p) w ≡ false → 0 < length l → length p + length l ≡ part_size part
       → fed (at part w p) (l ++ more) ≡ fed (emptied (completed part w (p ++ l))) more
   unfolding fed
   finish [] p more o z h = absurd (omega arith)
@@ -75,7 +76,7 @@ module _ (part : Part) (w : List ℕ) where
 
   -- a part at the front of what is left
   whole :
-      (l : List ℕ) → is_full_by part 0 w ≡ false → 0 < part_size part → part_size part ≤ length l
+      (l : List ℕ) → is_full part 0 w ≡ false → 0 < part_size part → part_size part ≤ length l
       → fed (at part w []) l ≡ fed (emptied (completed part w (take (part_size part) l))) (drop (part_size part) l)
   whole l o z h =
       let n = part_size part in
@@ -96,12 +97,12 @@ module _ (rest : List ℕ) (later : List ℕ → ℕ × List ℕ) (h : (w : List
     where
       go : (t : Bool) → eqb r.0 0 ≡ t → outcome (fed (emptied (waiting r)) rest) ≡ cond t (later r.1) r
       go true e = ap (λ (k : ℕ). outcome (fed (emptied (waiting (k, r.1))) rest)) (eqb-true r.0 0 e) ∙ h r.1
-      go false e = ap outcome (fed_refused (emptied (waiting r)) rest (eqb-false r.0 0 e)) ∙ rw e
+      go false e = rw e (ap outcome (fed_refused r.0 r.1 [] rest))
 
 -- a refusal's outcome
-stops : (k : ℕ) (w l : List ℕ) → (k ≡ 0 → ⊥) → outcome (fed (emptied (waiting_feed k, w)) l) ≡ (k, w)
+stops : (k : ℕ) (w l : List ℕ) → outcome (fed (emptied (Refused k, w)) l) ≡ (k, w)
 unfolding end_number
-stops k w l h = ap outcome (fed_refused (emptied (waiting_feed k, w)) l h) ∙ rw (ne_eqb k 0 h)
+stops k w l = ap outcome (fed_refused k w [] l)
 
 module _ (w : List ℕ) (b : ℕ) (m : List ℕ) where
   abbrev l : List ℕ
@@ -112,8 +113,8 @@ module _ (w : List ℕ) (b : ℕ) (m : List ℕ) where
 
   -- at the limit
   limit : leb most_logs (get_or w logs_word 0) ≡ true → outcome (fed (at Length w []) l) ≡ (10, w)
-  unfolding fed pushed is_full
-  limit e = ap (λ (s : State). outcome (fed s m)) (rw e) ∙ stops 10 w m (λ z. omega arith)
+  unfolding fed pushed
+  limit e = ap (λ (s : State). outcome (fed s m)) (rw e) ∙ stops 10 w m
 
   module _ (o : leb most_logs (get_or w logs_word 0) ≡ false) where
     cut_length : length l < length_bytes → outcome (fed (at Length w []) l) ≡ (1, w)
@@ -127,7 +128,7 @@ module _ (w : List ℕ) (b : ℕ) (m : List ℕ) where
 
     too_long : length_bytes ≤ length l → most_log_bytes < n → outcome (fed (at Length w []) l) ≡ (2, w)
     unfolding sized
-    too_long h k = ap outcome (length_read h) ∙ rw (lt-ltb most_log_bytes n k) (stops 2 w (drop 4 l) (λ z. omega arith))
+    too_long h k = ap outcome (length_read h) ∙ rw (lt-ltb most_log_bytes n k) (stops 2 w (drop 4 l))
 
     cut_log : length_bytes ≤ length l → n ≤ most_log_bytes → length l - length_bytes < n → outcome (fed (at Length w []) l) ≡ (1, w)
     unfolding sized end_number

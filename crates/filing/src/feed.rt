@@ -1,8 +1,11 @@
 // A sheet's file, byte by byte. The bytes of the part under way stand at the front of a buffer that the caller lends.
-ghost use Rattle.std.specs.Prelude.{◌≡◌, ◌≤◌, length};
-ghost use Rattle.filing.specs.Feeds.{header_bytes, length_bytes, part_size, start_feed, waiting_feed, headed, logged, sized, completed, state_of, is_full, is_done_by, pushed, fed, Ready, end_number};
+// Stays: there is no heap, so these bytes are no Vec, and how many they are stands in the feed.
+ghost use Rattle.std.specs.Prelude.{◌≡◌, ◌≤◌, ◌<◌, length};
+ghost use Rattle.filing.specs.Feeds.{header_bytes, length_bytes, part_size, start_feed, waiting_feed, headed, logged, sized, completed, state_of, is_full, pushed, fed, Ready, end_number};
+ghost use Rattle.laws.specs.Refusals.{refusal_number};
 ghost use Rattle.laws.specs.Words.{number_at};
 
+use laws::Refusal;
 use totals::{LOGS, MOST_LOG_BYTES, MOST_LOGS, WORDS};
 
 // The bytes of a header, and of a log's length.
@@ -19,20 +22,19 @@ pub enum Part {
 }
 
 // The part under way and how many of its bytes there are; or the number that was refused.
+// Stays: the number is the one that totals answers, and C calls totals.
 #[derive(Clone, Copy)]
-pub struct Feed {
-    pub part: Part,
-    pub have: usize,
-    pub number: u64,
+pub enum Feed {
+    Reading { part: Part, have: usize },
+    Refused(u64),
 }
 
 pub fn begin() -> Feed
     ensures { result ≡ start_feed }
 {
-    Feed {
+    Feed::Reading {
         part: Part::Header,
         have: 0,
-        number: 0,
     }
 }
 
@@ -46,17 +48,26 @@ fn size_of(part: Part) -> usize
     }
 }
 
+fn number_of(refusal: Refusal) -> u64
+    ensures { result ≡ refusal_number refusal }
+{
+    u64::from(u8::from(refusal))
+}
+
 // The next log's length is awaited, or a number was refused.
 fn waiting(number: u64) -> Feed
     ensures { result ≡ waiting_feed number }
 {
-    Feed {
+    if number != 0 {
+        return Feed::Refused(number);
+    }
+    Feed::Reading {
         part: Part::Length,
         have: 0,
-        number: number,
     }
 }
 
+#[tactic(auto, unfolding(crate::specs::Feeds::headed))]
 fn take_header(words: &mut [u64; WORDS], item: &[u8]) -> Feed
     requires { header_bytes ≤ length item.now }
     ensures { (result, words.new) ≡ headed words.old item.now }
@@ -65,31 +76,33 @@ fn take_header(words: &mut [u64; WORDS], item: &[u8]) -> Feed
     waiting(totals::new_sheet(words, address, item[8] as u64))
 }
 
+#[tactic(auto, unfolding(crate::specs::Feeds::logged))]
 fn take_log(words: &mut [u64; WORDS], item: &[u8]) -> Feed
     ensures { (result, words.new) ≡ logged words.old item.now }
 {
     waiting(totals::add_log(words, item))
 }
 
+#[tactic(auto, unfolding(crate::specs::Feeds::sized))]
 fn take_length(words: &mut [u64; WORDS], item: &[u8]) -> Feed
     requires { length_bytes ≤ length item.now }
     ensures { (result, words.new) ≡ sized words.old (number_at item.now 0 4) }
 {
     let n = laws::u32_at(item, 0) as usize;
     if MOST_LOG_BYTES < n {
-        return waiting(2);
+        return Feed::Refused(number_of(Refusal::Outside));
     }
     if n == 0 {
         return take_log(words, &[]);
     }
-    Feed {
+    Feed::Reading {
         part: Part::Log(n),
         have: 0,
-        number: 0,
     }
 }
 
 // A part that is whole.
+#[tactic(auto, unfolding(crate::specs::Feeds::completed))]
 fn complete(part: Part, words: &mut [u64; WORDS], item: &[u8]) -> Feed
     requires { length item.now ≡ part_size part }
     ensures { (result, words.new) ≡ completed part words.old item.now }
@@ -102,15 +115,10 @@ fn complete(part: Part, words: &mut [u64; WORDS], item: &[u8]) -> Feed
 }
 
 // The limit is reached, and another log begins.
-fn is_full(f: Feed, words: &[u64; WORDS]) -> bool
-    ensures { result ≡ is_full f words.now }
+fn is_full(part: Part, have: usize, words: &[u64; WORDS]) -> bool
+    ensures { result ≡ is_full part have words.now }
 {
-    let part = f.part;
-    match part {
-        Part::Header => false,
-        Part::Length => f.have == 0 && MOST_LOGS <= words[LOGS],
-        Part::Log(_) => false,
-    }
+    matches!(part, Part::Length) && have == 0 && MOST_LOGS <= words[LOGS]
 }
 
 // One byte more.
@@ -118,22 +126,16 @@ fn push(f: Feed, words: &mut [u64; WORDS], carry: &mut [u8], b: u8) -> Feed
     requires { Ready f carry.old }
     ensures { (state_of result words.new carry.new ≡ pushed (state_of f words.old carry.old) b) × Ready result carry.new }
 {
-    if f.number != 0 {
+    let Feed::Reading { part, have } = f else {
         return f;
+    };
+    if is_full(part, have, words) {
+        return Feed::Refused(number_of(Refusal::Full));
     }
-    if is_full(f, words) {
-        return waiting(10);
-    }
-    let have = f.have;
-    let part = f.part;
     carry[have] = b;
     let next = have + 1;
     if next < size_of(part) {
-        return Feed {
-            part: part,
-            have: next,
-            number: 0,
-        };
+        return Feed::Reading { part, have: next };
     }
     complete(part, words, &carry[..next])
 }
@@ -144,34 +146,24 @@ pub fn feed_block(f: Feed, words: &mut [u64; WORDS], carry: &mut [u8], block: &[
     ensures { (state_of result words.new carry.new ≡ fed (state_of f words.old carry.old) block.now) × Ready result carry.new }
 {
     let mut g = f;
-    let mut i = 0;
-    while i < block.len() {
-        g = push(g, words, carry, block[i]);
-        i = i + 1;
+    for b in block {
+        g = push(g, words, carry, *b);
     }
     g
 }
 
-fn is_done(f: Feed) -> bool
-    ensures { result ≡ is_done_by f.part f.have }
-{
-    let part = f.part;
-    match part {
-        Part::Header => false,
-        Part::Length => f.have == 0,
-        Part::Log(_) => false,
-    }
-}
-
 // At the end of the file: the number that was refused, 1 where a part is cut.
+// Stays: the theorem FileIsRead is about this number, which is 0 where nothing was refused.
+#[tactic(auto, unfolding(crate::specs::Feeds::end_number))]
 pub fn end_number(f: Feed) -> u64
     ensures { result ≡ end_number f }
 {
-    if f.number != 0 {
-        return f.number;
+    match f {
+        Feed::Refused(number) => number,
+        Feed::Reading {
+            part: Part::Length,
+            have: 0,
+        } => 0,
+        Feed::Reading { .. } => number_of(Refusal::Malformed),
     }
-    if is_done(f) {
-        return 0;
-    }
-    1
 }

@@ -12,7 +12,7 @@ use Rattle.printing.specs.Ascii.{ascii}
 use Rattle.printing.specs.Texts.{pair_line, count_line, count_lines, line, sheet_text, report_text}
 
 -- words that are left, as some and then others
-pub parted :
+parted :
     {all ws : List Word} {old mid : List ℕ} {m : ℕ} (xs ys : List Word)
     → ws ≡ xs ++ ys → Going word_bytes all (ws ∷ []) old mid m → Going word_bytes all (xs ∷ ys ∷ []) old mid m
 unfolding flat
@@ -31,11 +31,18 @@ some_else letter k n h = rw (ne_eqb n 0 h)
 
 module _ (letter : List ℕ) (base : ℕ) (w : List ℕ) where
   -- the first of those that are left, and the others
-  pub line_first :
+  line_first :
       (k end : ℕ) → k < end
       → count_lines letter base k (end - k) w ≡ count_line letter k (get_or w (base + k) 0) ++ count_lines letter base (k + 1) (end - (k + 1)) w
   unfolding count_lines
   line_first k end h = let e : end - k ≡ suc (end - (k + 1)) = omega arith in ap (λ (n : ℕ). count_lines letter base k n w) e
+
+  pub line_next :
+      (k end : ℕ) → k < end → {all : List Word} {old mid : List ℕ} {m : ℕ}
+      → Going word_bytes all (count_lines letter base k (end - k) w ∷ []) old mid m
+      → Going word_bytes all (count_line letter k (get_or w (base + k) 0) ∷ count_lines letter base (k + 1) (end - (k + 1)) w ∷ []) old mid m
+  line_next k end h g =
+      parted (count_line letter k (get_or w (base + k) 0)) (count_lines letter base (k + 1) (end - (k + 1)) w) (line_first k end h) g
 
   pub line_none : (k end : ℕ) → end ≤ k → count_lines letter base k (end - k) w ≡ []
   unfolding count_lines

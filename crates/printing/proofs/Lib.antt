@@ -1,2 +1,3 @@
 pub mod Counting
+pub mod InARow
 pub mod Room

@@ -1,4 +1,5 @@
 // A line of one number, and of two. Each writer writes at the front of what is lent to it and answers how many bytes it wrote.
+// Stays: document 01's form, a writer is lent the part of the buffer behind what was written so far.
 ghost use Rattle.std.specs.Prelude.{◌≤◌, length};
 ghost use Rattle.laws.specs.Lending.{size, Logged};
 ghost use Rattle.decimal.specs.Words.{word_bytes};

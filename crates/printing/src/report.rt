@@ -1,4 +1,5 @@
 // The sheet's lines, or its refusal.
+// Stays: document 01's form, a writer is lent the part of the buffer behind what was written so far.
 ghost use Rattle.std.specs.Prelude.{◌+◌, ◌≤◌, length};
 ghost use Rattle.laws.specs.Lending.{size, Logged};
 ghost use Rattle.decimal.specs.Words.{word_bytes};
@@ -20,12 +21,9 @@ fn put_counts(
     requires { (size word_bytes (count_lines letter.now base first count words.now) ≤ length out.old) × (base + first + count ≤ sheet_words) }
     ensures { Logged word_bytes (count_lines letter.now base first count words.now) out.old out.new result }
 {
-    let end = first + count;
     let mut n = 0;
-    let mut k = first;
-    while k < end {
-        n = n + put_count(&mut out[n..], letter, k as u64, words[base + k]);
-        k = k + 1;
+    for k in first..first + count {
+        n += put_count(&mut out[n..], letter, k as u64, words[base + k]);
     }
     n
 }
@@ -59,6 +57,7 @@ fn put_sheet(out: &mut [u8], words: &[u64; WORDS]) -> usize
 }
 
 // The sheet, or the number that was refused.
+// Stays: the number is the one of the theorem FileIsRead, and `report_text` is said of it; 0 is no refusal.
 pub fn put_report(out: &mut [u8], number: u64, words: &[u64; WORDS]) -> usize
     requires { size word_bytes (report_text number words.now) ≤ length out.old }
     ensures { Logged word_bytes (report_text number words.now) out.old out.new result }

@@ -1,3 +1,4 @@
+pub mod Calls
 pub mod Cases
 pub mod Left
 pub mod Parts

@@ -2,39 +2,33 @@
 ghost use Rattle.std.specs.Prelude.{◌≡◌, ℕ, ◌<◌, true, length, slice_index};
 ghost use Rattle.replay.specs.Left.{left_at};
 
+use crate::call::Call;
 use crate::cases::Head;
 
-// No call answers this, and no list holds it.
+// No call answers this, and no list of the oracle holds it.
+// Stays: an Option would tell a number of no call from a list that holds this beside it, which today is no difference.
 const NO_ANSWER: u64 = u64::MAX;
 
-// Whether the call answers what it must, and leaves what is lent as it must. `subject` is a record or a log.
+// Whether the call answers what it must, and leaves what is lent as it must. `subject` is a record or a log. The front of the buffer is
+// lent. What stands behind it is looked at too.
 pub(crate) fn is_same(head: Head, subject: &[u8], file: &[u8], written: &[u8]) -> bool {
     let mut buffer = [0xA5; 512];
-    is_same_on(&mut buffer, head, subject, file, written)
-}
-
-// The front of the buffer is lent. What stands behind it is looked at too.
-fn is_same_on(buffer: &mut [u8], head: Head, subject: &[u8], file: &[u8], written: &[u8]) -> bool {
-    let room = head.room as usize;
     let start = head.start as usize;
-    if buffer.len() < room {
+    let Some(lent) = buffer.get_mut(..head.room as usize) else {
         return false;
-    }
-    if answer(head.call, subject, file, &mut buffer[..room], start) != head.answer {
-        return false;
-    }
-    is_left(buffer, start, written)
+    };
+    answer(head.call, subject, file, lent, start) == head.answer && is_left(&buffer, start, written)
 }
 
-fn answer(call: u8, subject: &[u8], file: &[u8], lent: &mut [u8], start: usize) -> u64 {
+fn answer(call: Option<Call>, subject: &[u8], file: &[u8], lent: &mut [u8], start: usize) -> u64 {
     match call {
-        1 => machhurel::machhurel_visit(subject, file, lent, start),
-        2 => machhurel::machhurel_listing(subject, lent, start),
-        3 => machhurel::machhurel_digest(subject),
-        4 => machhurel::machhurel_privilege(subject),
-        5 => machhurel::machhurel_exceptions(subject),
-        6 => machhurel::machhurel_event(subject, start),
-        _ => NO_ANSWER,
+        Some(Call::Visit) => machhurel::machhurel_visit(subject, file, lent, start),
+        Some(Call::Listing) => machhurel::machhurel_listing(subject, lent, start),
+        Some(Call::Digest) => machhurel::machhurel_digest(subject),
+        Some(Call::Privilege) => machhurel::machhurel_privilege(subject),
+        Some(Call::Exceptions) => machhurel::machhurel_exceptions(subject),
+        Some(Call::Event) => machhurel::machhurel_event(subject, start),
+        None => NO_ANSWER,
     }
 }
 
@@ -42,12 +36,10 @@ fn answer(call: u8, subject: &[u8], file: &[u8], lent: &mut [u8], start: usize) 
 fn is_left(buffer: &[u8], start: usize, written: &[u8]) -> bool
     ensures { result ≡ true → (k : ℕ) → k < length buffer.now → slice_index buffer.now k ≡ left_at start written.now k }
 {
-    let mut i = 0;
-    while i < buffer.len() {
-        if buffer[i] != left_at(start, written, i) {
+    for (i, b) in buffer.iter().enumerate() {
+        if *b != left_at(start, written, i) {
             return false;
         }
-        i += 1;
     }
     true
 }

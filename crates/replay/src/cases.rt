@@ -2,13 +2,14 @@
 ghost use Rattle.std.specs.Prelude.{◌+◌, ◌≤◌, length};
 ghost use Rattle.replay.specs.Cases.{Parted, Whole};
 
+use crate::call::Call;
 use crate::calls::is_same;
-use crate::files::{Part, file, part_at};
+use crate::files::{file, part_at};
 
-// What a case's head says, field by field.
+// What a case's head says, field by field. A number of no call names none.
 #[derive(Clone, Copy)]
 pub struct Head {
-    pub call: u8,
+    pub call: Option<Call>,
     pub count: u8,
     pub file: u16,
     pub length: u16,
@@ -26,34 +27,18 @@ pub struct Case {
     pub next: usize,
 }
 
-#[derive(Clone, Copy)]
-pub enum Found {
-    One(Case),
-    Missing,
-}
-
-pub fn case_at(list: &[u8], at: usize) -> Found
+pub fn case_at(list: &[u8], at: usize) -> Option<Case>
     ensures { Whole (length list.now) result }
 {
-    let Part::Bytes { from, to: subject } = part_at(list, at, 24) else {
-        return Found::Missing;
-    };
-    let head = head_at(list, from);
-    let Part::Bytes {
-        from: _,
-        to: written,
-    } = part_at(list, subject, head.length as usize)
-    else {
-        return Found::Missing;
-    };
-    let Part::Bytes { from: _, to: next } = part_at(list, written, head.count as usize) else {
-        return Found::Missing;
-    };
-    Found::One(Case {
-        head: head,
-        subject: subject,
-        written: written,
-        next: next,
+    let front = part_at(list, at, 24)?;
+    let head = head_at(list, front.start);
+    let subject = part_at(list, front.end, head.length as usize)?;
+    let written = part_at(list, subject.end, head.count as usize)?;
+    Some(Case {
+        head,
+        subject: subject.start,
+        written: written.start,
+        next: written.end,
     })
 }
 
@@ -61,7 +46,7 @@ fn head_at(list: &[u8], at: usize) -> Head
     requires { at + 24 ≤ length list.now }
 {
     Head {
-        call: list[at],
+        call: Call::try_from(list[at]).ok(),
         count: list[at + 1],
         file: laws::u16_at(list, at + 2),
         length: laws::u16_at(list, at + 4),
@@ -75,17 +60,13 @@ fn head_at(list: &[u8], at: usize) -> Head
 pub(crate) fn holds(list: &[u8], c: Case) -> bool
     requires { Parted (length list.now) c }
 {
-    let head = c.head;
-    let subject = c.subject;
-    let written = c.written;
-    let next = c.next;
-    let Part::Bytes { from, to } = file(list, head.file as u32) else {
+    let Some(file) = file(list, c.head.file as u32) else {
         return false;
     };
     is_same(
-        head,
-        &list[subject..written],
-        &list[from..to],
-        &list[written..next],
+        c.head,
+        &list[c.subject..c.written],
+        &list[file],
+        &list[c.written..c.next],
     )
 }

@@ -2,31 +2,21 @@
 ghost use Rattle.std.specs.Prelude.{◌+◌, length};
 ghost use Rattle.replay.specs.Parts.{IsPart, Within};
 
-// A part of the list: its first place, and the place behind it.
-#[derive(Clone, Copy)]
-pub enum Part {
-    Bytes { from: usize, to: usize },
-    Missing,
-}
+use std::ops::Range;
 
-// The `count` bytes from a place on.
-pub fn part_at(list: &[u8], at: usize, count: usize) -> Part
+// The `count` bytes from a place on, where the list has them.
+pub fn part_at(list: &[u8], at: usize, count: usize) -> Option<Range<usize>>
     ensures { IsPart (length list.now) at count result }
 {
-    if list.len() < at {
-        return Part::Missing;
+    let end = at.checked_add(count)?;
+    if list.len() < end {
+        return None;
     }
-    if list.len() - at < count {
-        return Part::Missing;
-    }
-    Part::Bytes {
-        from: at,
-        to: at + count,
-    }
+    Some(at..end)
 }
 
 // File k, counted from 0.
-pub fn file(list: &[u8], k: u32) -> Part
+pub fn file(list: &[u8], k: u32) -> Option<Range<usize>>
     ensures { Within (length list.now) result }
 {
     file_at(list, behind(list, k))
@@ -35,23 +25,19 @@ pub fn file(list: &[u8], k: u32) -> Part
 // The place behind the first `count` files, or the list's end where it has fewer.
 pub(crate) fn behind(list: &[u8], count: u32) -> usize {
     let mut at = 16;
-    let mut i = 0;
-    while i < count {
-        let Part::Bytes { from: _, to } = file_at(list, at) else {
+    for _ in 0..count {
+        let Some(file) = file_at(list, at) else {
             return list.len();
         };
-        at = to;
-        i += 1;
+        at = file.end;
     }
     at
 }
 
 // The file whose length stands at a place.
-fn file_at(list: &[u8], at: usize) -> Part
+fn file_at(list: &[u8], at: usize) -> Option<Range<usize>>
     ensures { Within (length list.now) result }
 {
-    let Part::Bytes { from, to } = part_at(list, at, 2) else {
-        return Part::Missing;
-    };
-    part_at(list, to, laws::u16_at(list, from) as usize)
+    let length = part_at(list, at, 2)?;
+    part_at(list, length.end, laws::u16_at(list, length.start) as usize)
 }

@@ -6,6 +6,7 @@
 //     cargo run --release --offline --bin list > ../crates/replay/data/answers.list
 #![tactic(auto)]
 
+mod call;
 mod calls;
 mod cases;
 mod files;
@@ -25,6 +26,7 @@ fn main(rt: HostRuntime) -> io::Result<()> {
     let path = "answers.list";
     match File::open(&rt, path) {
         Ok(mut file) => {
+            // Stays: there is no heap, so the list is no Vec.
             let mut bytes = room_for_list();
             let n = read_list(&mut file, &mut bytes)?;
             replay(&rt, &bytes[..n])
@@ -41,6 +43,7 @@ fn room_for_list() -> [u8; 600000]
 }
 
 // Reads until the file ends or the room is full, and answers how many bytes stand at its front.
+// Stays: std's reading to a file's end fills a Vec, and there is no heap here; `read_exact` refuses a file that is shorter.
 fn read_list(file: &mut File, room: &mut [u8]) -> io::Result<usize>
     ensures { IfOk result (λ n. n ≤ length room.new) }
 {

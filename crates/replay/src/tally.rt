@@ -1,28 +1,33 @@
 // All cases, one after the other, and what was seen of them.
-ghost use Rattle.std.specs.Prelude.{◌<◌};
-
-use crate::cases::{Found, case_at, holds};
+use crate::call::Call;
+use crate::cases::{case_at, holds};
 use std::io;
 
-// The place of the next case; how many cases each call had, at its number (0: no call); how many differ.
+// The place of the next case; how many cases each call had, in the order of their numbers; how many differ.
 #[derive(Clone, Copy)]
 pub struct Tally {
     pub at: usize,
-    pub calls: [u64; 7],
+    pub calls: [u64; 6],
     pub differences: u64,
 }
 
 impl Tally {
-    fn passed(mut self, call: usize, next: usize) -> Self
-        requires { call < 7 }
-    {
+    // How many cases a call had.
+    pub(crate) fn count(self, call: Call) -> u64 {
+        self.calls[call as usize - 1]
+    }
+
+    fn passed(mut self, call: Option<Call>, next: usize) -> Self {
         self.at = next;
-        self.calls[call] = self.calls[call].wrapping_add(1);
+        if let Some(call) = call {
+            let i = call as usize - 1;
+            self.calls[i] = self.calls[i].wrapping_add(1);
+        }
         self
     }
 
     // The first difference is printed as it is met.
-    fn differing(mut self, rt: &impl Print, number: u32, call: usize) -> io::Result<Self> {
+    fn differing(mut self, rt: &impl Print, number: u32, call: Option<Call>) -> io::Result<Self> {
         if self.differences == 0 {
             crate::print::difference(rt, number, call)?;
         }
@@ -37,10 +42,9 @@ pub(crate) fn replay_all(
     first: usize,
     cases: u32,
 ) -> io::Result<Tally> {
-    let calls = [0; 7];
     let mut seen = Tally {
         at: first,
-        calls: calls,
+        calls: [0; 6],
         differences: 0,
     };
     for number in 0..cases {
@@ -51,21 +55,13 @@ pub(crate) fn replay_all(
 
 // A case that the list breaks off in differs, and so do all that should follow it.
 fn replay_one(rt: &impl Print, list: &[u8], seen: Tally, number: u32) -> io::Result<Tally> {
-    let at = seen.at;
-    let Found::One(c) = case_at(list, at) else {
-        return seen.differing(rt, number, 0);
+    let Some(c) = case_at(list, seen.at) else {
+        return seen.differing(rt, number, None);
     };
-    let head = c.head;
-    let call = known(head.call);
+    let call = c.head.call;
     let after = seen.passed(call, c.next);
     if holds(list, c) {
         return Ok(after);
     }
     after.differing(rt, number, call)
-}
-
-fn known(call: u8) -> usize
-    ensures { result < 7 }
-{
-    if call < 7 { call as usize } else { 0 }
 }

@@ -2,8 +2,7 @@
 // anything is printed, in blocks, so that it may be larger than memory.
 #![tactic(auto)]
 
-ghost use Rattle.std.specs.Prelude.{◌≡◌, ◌≤◌, IfOk, OnErr, length};
-ghost use Rattle.totals.specs.Sheets.{most_log_bytes};
+ghost use Rattle.std.specs.Prelude.{◌≡◌, IfOk, IfSome, OnErr};
 ghost use Rattle.filing.specs.Feeds.{Ready};
 
 use filing::Feed;
@@ -18,53 +17,45 @@ const REPORT_BYTES: usize = 4096;
 
 const BLOCK_BYTES: usize = 65536;
 
-// The feed after a block; whether there may be more.
-#[derive(Clone, Copy)]
-struct Turn {
-    feed: Feed,
-    more: bool,
+// What a file is read into: the sheet's words, the bytes of the part under way, and a block of the file.
+#[derive(Drop)]
+struct Room {
+    words: [u64; WORDS],
+    carry: [u8; BLOCK_BYTES],
+    block: [u8; BLOCK_BYTES],
 }
 
-// One block more. No contract can say what is read: what is kept is that the feed stays ready.
-fn take_block(
-    file: &mut File,
-    f: Feed,
-    words: &mut [u64; WORDS],
-    carry: &mut [u8],
-    block: &mut [u8],
-) -> io::Result<Turn>
-    requires { Ready f carry.old }
-    ensures ok { IfOk result (λ t. Ready t.feed carry.new) }
-    ensures err { OnErr result ((words.new ≡ words.old) × (carry.new ≡ carry.old)) }
-{
-    let n = file.read(block)?;
-    let feed = filing::feed_block(f, words, carry, &block[..n]);
-    Ok(Turn {
-        feed: feed,
-        more: 0 < n,
-    })
-}
-
-// All of them: no run uses the turns up.
-fn take_all(
-    file: &mut File,
-    words: &mut [u64; WORDS],
-    carry: &mut [u8],
-    block: &mut [u8],
-) -> io::Result<Feed>
-    requires { most_log_bytes ≤ length carry.old }
-{
-    let mut f = filing::begin();
-    for _ in 0..u64::MAX {
-        let t = take_block(file, f, words, carry, block)?;
-        f = t.feed;
-        if !t.more {
-            return Ok(f);
+impl Room {
+    // The feed after one block more; none where the file has ended. No contract can say what is read: what is kept is that the feed
+    // stays ready.
+    fn take_block(&mut self, file: &mut File, f: Feed) -> io::Result<Option<Feed>>
+        requires { Ready f self.old.carry }
+        ensures ok { IfOk result (λ more. IfSome more (λ g. Ready g self.new.carry)) }
+        ensures end { result ≡ Ok None → (self.new.words ≡ self.old.words) × (self.new.carry ≡ self.old.carry) }
+        ensures err { OnErr result ((self.new.words ≡ self.old.words) × (self.new.carry ≡ self.old.carry)) }
+    {
+        let n = file.read(&mut self.block)?;
+        if n == 0 {
+            return Ok(None);
         }
+        let g = filing::feed_block(f, &mut self.words, &mut self.carry, &self.block[..n]);
+        Ok(Some(g))
     }
-    Err(io::Error::other("no end"))
+
+    // All of them: no run uses the turns up.
+    fn take_all(&mut self, file: &mut File) -> io::Result<Feed> {
+        let mut f = filing::begin();
+        for _ in 0..u64::MAX {
+            let Some(g) = self.take_block(file, f)? else {
+                return Ok(f);
+            };
+            f = g;
+        }
+        Err(io::Error::other("no end"))
+    }
 }
 
+// Stays: there is no heap, so the text is no String, and how many bytes it has stands beside it.
 fn print(rt: &impl Print, f: Feed, words: &[u64; WORDS]) -> io::Result<()> {
     let number = filing::end_number(f);
     let mut out = laws::zeros::<REPORT_BYTES>();
@@ -75,14 +66,17 @@ fn print(rt: &impl Print, f: Feed, words: &[u64; WORDS]) -> io::Result<()> {
 // Reads the file and prints the sheet.
 fn print_file(rt: &HostRuntime, path: &str) -> io::Result<()> {
     let mut file = File::open(rt, path)?;
-    let mut words = [0u64; WORDS];
-    let mut carry = laws::zeros::<BLOCK_BYTES>();
-    let mut block = laws::zeros::<BLOCK_BYTES>();
-    let f = take_all(&mut file, &mut words, &mut carry, &mut block)?;
-    print(rt, f, &words)
+    let mut room = Room {
+        words: [0u64; WORDS],
+        carry: laws::zeros(),
+        block: laws::zeros(),
+    };
+    let f = room.take_all(&mut file)?;
+    print(rt, f, &room.words)
 }
 
 fn main(rt: HostRuntime) -> io::Result<()> {
+    // Stays: there is no heap, so the file's name is no String.
     let mut room = [0u8; 4096];
     let n = match rt.arg(1, &mut room) {
         Ok(n) => n,

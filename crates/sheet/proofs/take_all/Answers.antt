@@ -1,6 +1,0 @@
--- The feed is ready before each block.
-use Rattle.std.proofs.Common.{arith}
-use Rattle.sheet.proofs.take_all.Goals as goal
-
-pub loop-init : goal.loop-init
-loop-init c = rw c.begin-f.ensures (record { room = c.requires; inside = omega arith; small = omega arith })

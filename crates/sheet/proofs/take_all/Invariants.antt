@@ -1,5 +1,0 @@
-use Rattle.filing.specs.Feeds.{Ready}
-use Rattle.sheet.proofs.take_all.Given as goal
-
-abbrev pub invariant-loop : goal.invariant-loop
-invariant-loop l = Ready l.f l.carry
