@@ -187,3 +187,6 @@ module _ (v : Variable) (a n : ℕ) (hv : v.address < 2 ^ 64) (ha : a < 2 ^ 64) 
   pub store_none : n ≤ behind v.address a → v.length ≤ behind a v.address → NoneTouched ≡ store_verdict v a n
   unfolding store_verdict
   store_none h k = sym (none_is v.address a v.length n hv ha long some room h k)
+
+-- the four of them
+pub ruleset stores = (store_whole, store_front, store_back, store_none)

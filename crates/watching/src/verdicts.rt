@@ -55,7 +55,7 @@ pub enum Naming {
 
 impl Watched {
     // A store of n bytes at an address.
-    #[tactic(auto, using(crate::proofs::Overlap::store_whole, crate::proofs::Overlap::store_front, crate::proofs::Overlap::store_back, crate::proofs::Overlap::store_none))]
+    #[tactic(auto, using(crate::proofs::Overlap::stores))]
     fn store_verdict(self, a: u64, n: u8) -> Verdict
         requires { is_size n ≡ true }
         ensures { result ≡ store_verdict self.variable a n }
