@@ -14,7 +14,7 @@ use Rattle.session.specs.Words.{session_in, in_words, empty_words}
 use Rattle.totals.specs.Sheets as sheet
 use Rattle.reader.specs.Held.{handed_to}
 use Rattle.reader_words.specs.Words.{reader_by, handed_words, fresh_words, closed_words}
-use Rattle.watching.specs.Traces.{new_of, step_of}
+use Rattle.watching.specs.Traces.{new_of, step_of, after_step}
 use Rattle.watching.specs.Verdicts.{variable, name_at}
 use Rattle.fetching.specs.Judging.{judge_call, propose_call}
 use Rattle.fetch.specs.Answers.{judgement_bits, proposal_bits}
@@ -36,7 +36,7 @@ EveryExportDetermined =
     × OneOutcome (counted_of p)
     × OneOutcome {A = ℕ × ℕ} (difference_bits (parted_of f p), (parted_of f p).at)
     × OneOutcome (new_words (new_of address length) words)
-    × OneOutcome {A = ℕ × List ℕ} (stepped_bits (step_of (watch_in words) (b, f)), words_of (step_of (watch_in words) (b, f)).watch)
+    × OneOutcome {A = ℕ × List ℕ} (stepped_bits (step_of (watch_in words) (b, f)), words_of (after_step (watch_in words) (b, f)))
     × OneOutcome (naming_bits s (name_at (variable address length) p s))
     × OneOutcome (in_words (appended b f (session_in words, p)))
     × OneOutcome empty_words

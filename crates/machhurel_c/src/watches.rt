@@ -1,7 +1,7 @@
 // The C interface of a watch: a C caller keeps it as ten words. Any words at all get an answer.
 ghost use Rattle.std.specs.Prelude.{◌≡◌};
 ghost use Rattle.watching.specs.Verdicts.{variable, name_at};
-ghost use Rattle.watching.specs.Traces.{new_of, step_of};
+ghost use Rattle.watching.specs.Traces.{new_of, step_of, after_step};
 ghost use Rattle.watch_words.specs.Bits.{stepped_bits, naming_bits};
 ghost use Rattle.watch_words.specs.Words.{watch_in, words_of, new_words};
 
@@ -14,7 +14,7 @@ pub extern "C" fn machhurel_watch_new(watch: &mut [u64; 10], address: u64, lengt
 
 #[unsafe(no_mangle)]
 pub extern "C" fn machhurel_watch_step(watch: &mut [u64; 10], bytes: &[u8], file: &[u8]) -> u64
-    ensures { (watch.new ≡ words_of (step_of (watch_in watch.old) (bytes.now, file.now)).watch)
+    ensures { (watch.new ≡ words_of (after_step (watch_in watch.old) (bytes.now, file.now)))
         × (result ≡ stepped_bits (step_of (watch_in watch.old) (bytes.now, file.now))) }
 {
     machhurel::machhurel_watch_step(watch, bytes, file)

@@ -4,24 +4,24 @@ use Prim.Native.Nat.{ℕ, zero, suc, ◌+◌, ◌*◌, ◌^◌, ◌≤◌, ◌<�
 use native.Mathlib.Omega.{arith}
 use mathlib.Core.Path.{◌≡◌, refl, sym, ap, ◌∙◌}
 use mathlib.Core.List.{List, [], ◌∷◌, ◌++◌}
-use mathlib.Core.Bool.{Bool, true, false, ◌&&◌}
+use mathlib.Core.Bool.{Bool, true, false}
 use lib.ListN.{length, take}
 use lib.Dec.{ltb, eqb}
-use borrow.Author.Tests.{lt-ltb, le-ltb, ltb-true, ltb-false}
+use borrow.Author.Tests.{ltb-true, ltb-false}
+use Rattle.std.specs.Prelude.{Option, None, Some}
+use Rattle.std.specs.Bool.{then_some}
 use Rattle.laws.proofs.Choice.{either}
 use Rattle.definition.specs.Limits.{most_events}
 use Rattle.definition.specs.Visits.{number_of}
 use Rattle.definition.specs.declared.Answer.{Answer}
 use Rattle.watching.specs.Verdicts.{is_length}
 use Rattle.watching.specs.Tallies.{tally_of, total, summed}
-use Rattle.watching.specs.Traces.{Pair, most_pairs, answer_to, refusals, verdicts_of, numbered, earlier, later, fresh, is_taking, further, taken, untaken, step_of, run_from, watch_of}
+use Rattle.watching.specs.Traces.{Pair, most_pairs, answer_to, refusals, verdicts_of, earlier, later, fresh, further, taken, after_step, run_from, watch_of}
 use Rattle.watching.specs.declared.verdicts.Variable.{Variable}
 use Rattle.watching.specs.declared.tallies.Tally.{Tally}
-use Rattle.watching.specs.declared.watch.When.{When}
-use Rattle.watching.specs.declared.watch.When.TheVariants.{Never, At}
 use Rattle.watching.specs.declared.watch.Watch.{Watch}
 use Rattle.watching.proofs.Sums.{tally_is, summed_none, none_summed, added_small}
-use Rattle.watching.proofs.Steps.{pair_few}
+use Rattle.watching.proofs.Steps.{full_takes, short_takes, step_untaken, step_taken, pair_few}
 use Rattle.trusting.specs.Merges.{shifted, merged}
 use Rattle.trusting.specs.Promises.{Watched, Within}
 
@@ -36,40 +36,40 @@ summed_assoc : (s t u : Tally) → summed (summed s t) u ≡ summed s (summed t 
 summed_assoc s t u = tally_is (omega arith) (omega arith) (omega arith) (omega arith)
 
 -- numbers
-shift_zero : (x : When) → shifted 0 x ≡ x
-shift_zero (At i) = ap At (omega arith)
-shift_zero Never = refl
+shift_zero : (x : Option ℕ) → shifted 0 x ≡ x
+shift_zero (Some i) = ap Some (omega arith)
+shift_zero None = refl
 
-shift_shift : (n m : ℕ) (x : When) → shifted n (shifted m x) ≡ shifted (n + m) x
-shift_shift n m (At i) = ap At (omega arith)
-shift_shift n m Never = refl
+shift_shift : (n m : ℕ) (x : Option ℕ) → shifted n (shifted m x) ≡ shifted (n + m) x
+shift_shift n m (Some i) = ap Some (omega arith)
+shift_shift n m None = refl
 
-earlier_assoc : (x y z : When) → earlier (earlier x y) z ≡ earlier x (earlier y z)
-earlier_assoc (At i) y z = refl
-earlier_assoc Never y z = refl
+earlier_assoc : (x y z : Option ℕ) → earlier (earlier x y) z ≡ earlier x (earlier y z)
+earlier_assoc (Some i) y z = refl
+earlier_assoc None y z = refl
 
-pub earlier_never : (x : When) → earlier x Never ≡ x
-earlier_never (At i) = refl
-earlier_never Never = refl
+pub earlier_never : (x : Option ℕ) → earlier x None ≡ x
+earlier_never (Some i) = refl
+earlier_never None = refl
 
-shift_earlier : (n : ℕ) (x y : When) → shifted n (earlier x y) ≡ earlier (shifted n x) (shifted n y)
-shift_earlier n (At i) y = refl
-shift_earlier n Never y = refl
+shift_earlier : (n : ℕ) (x y : Option ℕ) → shifted n (earlier x y) ≡ earlier (shifted n x) (shifted n y)
+shift_earlier n (Some i) y = refl
+shift_earlier n None y = refl
 
-later_assoc : (x y z : When) → later (later x y) z ≡ later x (later y z)
-later_assoc x y (At i) = refl
-later_assoc x y Never = refl
+later_assoc : (x y z : Option ℕ) → later (later x y) z ≡ later x (later y z)
+later_assoc x y (Some i) = refl
+later_assoc x y None = refl
 
-later_never : (x : When) → later Never x ≡ x
-later_never (At i) = refl
-later_never Never = refl
+later_never : (x : Option ℕ) → later None x ≡ x
+later_never (Some i) = refl
+later_never None = refl
 
-shift_later : (n : ℕ) (x y : When) → shifted n (later x y) ≡ later (shifted n x) (shifted n y)
-shift_later n x (At i) = refl
-shift_later n x Never = refl
+shift_later : (n : ℕ) (x y : Option ℕ) → shifted n (later x y) ≡ later (shifted n x) (shifted n y)
+shift_later n x (Some i) = refl
+shift_later n x None = refl
 
-numbered_shift : (t : Bool) (n : ℕ) → numbered t n ≡ shifted n (numbered t 0)
-numbered_shift true n = ap At (omega arith)
+numbered_shift : (t : Bool) (n : ℕ) → then_some t n ≡ shifted n (then_some t 0)
+numbered_shift true n = ap Some (omega arith)
 numbered_shift false n = refl
 
 -- merging is associative, and a fresh watch is its unit
@@ -100,8 +100,8 @@ pair_watch v p =
       pairs = 1;
       tally = tally_of (verdicts_of v p);
       refused = refusals (answer_to p);
-      first = numbered (ltb 0 (tally_of (verdicts_of v p)).part) 0;
-      last = numbered (ltb 0 (tally_of (verdicts_of v p)).whole) 0;
+      first = then_some (ltb 0 (tally_of (verdicts_of v p)).part) 0;
+      last = then_some (ltb 0 (tally_of (verdicts_of v p)).whole) 0;
     }
 
 unfoldable pub whole_watch : Variable → List Pair → Watch
@@ -126,33 +126,6 @@ pub fresh_bounded : (v : Variable) → Bounded (fresh v)
 unfolding fresh
 fresh_bounded v = record { limit = omega arith; events = omega arith; refused = omega arith }
 
--- a watch that takes a pair, or not
-takes : (w : Watch) → Watched w.variable → w.pairs < most_pairs → is_taking w ≡ true
-unfolding is_taking
-takes w h l = rw (h, lt-ltb w.pairs most_pairs l)
-
-pub full_takes : (w : Watch) → most_pairs ≤ w.pairs → is_taking w ≡ false
-unfolding is_taking
-full_takes w h = rw (le-ltb w.pairs most_pairs h) (and_false (is_length w.variable.length))
-  where
-    and_false : (t : Bool) → (t && false) ≡ false
-    and_false true = refl
-    and_false false = refl
-
-pub short_takes : (w : Watch) → is_length w.variable.length ≡ false → is_taking w ≡ false
-unfolding is_taking
-short_takes w h = rw h
-
-pub step_untaken : (w : Watch) (p : Pair) → is_taking w ≡ false → step_of w p ≡ untaken w
-unfolding step_of
-step_untaken w p h = rw h
-
-pub step_taken :
-    (w : Watch) (p : Pair) → Watched w.variable → w.pairs < most_pairs
-    → step_of w p ≡ taken w (answer_to p) (refusals (answer_to p)) (tally_of (verdicts_of w.variable p))
-unfolding step_of
-step_taken w p h l = rw (takes w h l)
-
 module _ (w : Watch) (p : Pair) (bounded : Bounded w) (l : w.pairs < most_pairs) where
   pub small : total w.tally + total (tally_of (verdicts_of w.variable p)) < 2 ^ 64
   small = omega (arith, pair_few w.variable p, bounded.events)
@@ -174,15 +147,15 @@ module _ (w : Watch) (p : Pair) (bounded : Bounded w) (l : w.pairs < most_pairs)
   }
 
   module _ (h : Watched w.variable) where
-    pub step_merged : (step_of w p).watch ≡ merged w (pair_watch w.variable p)
-    unfolding taken
+    pub step_merged : after_step w p ≡ merged w (pair_watch w.variable p)
+    unfolding taken after_step
     step_merged = rw (step_taken w p h l) further_merged
 
-    step_bounded : Bounded (step_of w p).watch
+    step_bounded : Bounded (after_step w p)
     step_bounded = rw step_merged merged_bounded
 
-step_short : (w : Watch) (p : Pair) → is_length w.variable.length ≡ false → (step_of w p).watch ≡ w
-unfolding untaken
+step_short : (w : Watch) (p : Pair) → is_length w.variable.length ≡ false → after_step w p ≡ w
+unfolding after_step
 step_short w p h = rw (step_untaken w p (short_takes w h))
 
 -- what a fresh watch and runs of no pair and of one more are
@@ -202,7 +175,7 @@ run_none : (w : Watch) → run_from w [] ≡ w
 unfolding run_from
 run_none w = refl
 
-run_more : (w : Watch) (p : Pair) (ps : List Pair) → run_from w (p ∷ ps) ≡ run_from (step_of w p).watch ps
+run_more : (w : Watch) (p : Pair) (ps : List Pair) → run_from w (p ∷ ps) ≡ run_from (after_step w p) ps
 unfolding run_from
 run_more w p ps = refl
 
@@ -239,8 +212,8 @@ run_merged w (p ∷ ps) h b l =
     ∙ in_front_lem w p ps)
 
 -- past the limit nothing changes, so a run stops at its first so many pairs
-step_past : (w : Watch) (p : Pair) → most_pairs ≤ w.pairs → (step_of w p).watch ≡ w
-unfolding untaken
+step_past : (w : Watch) (p : Pair) → most_pairs ≤ w.pairs → after_step w p ≡ w
+unfolding after_step
 step_past w p h = rw (step_untaken w p (full_takes w h))
 
 run_past : (w : Watch) (ps : List Pair) → most_pairs ≤ w.pairs → run_from w ps ≡ w
@@ -285,10 +258,10 @@ whole_append v (p ∷ ps) qs =
     ap (merged (pair_watch v p)) (whole_append v ps qs) ∙ sym (merged_assoc (pair_watch v p) (whole_watch v ps) (whole_watch v qs))
 
 -- whatever the trace and the variable, the watch is bounded
-step_bounds : (w : Watch) (p : Pair) → Bounded w → Bounded (step_of w p).watch
+step_bounds : (w : Watch) (p : Pair) → Bounded w → Bounded (after_step w p)
 step_bounds w p b = by_length (is_length w.variable.length) (ltb w.pairs most_pairs) refl refl
   where
-    by_length : (t u : Bool) → is_length w.variable.length ≡ t → ltb w.pairs most_pairs ≡ u → Bounded (step_of w p).watch
+    by_length : (t u : Bool) → is_length w.variable.length ≡ t → ltb w.pairs most_pairs ≡ u → Bounded (after_step w p)
     by_length true true e f = step_bounded w p b (ltb-true w.pairs most_pairs f) e
     by_length true false e f = rw (step_past w p (ltb-false w.pairs most_pairs f)) b
     by_length false u e f = rw (step_short w p e) b
@@ -296,7 +269,7 @@ step_bounds w p b = by_length (is_length w.variable.length) (ltb w.pairs most_pa
 run_bounds : (w : Watch) (ps : List Pair) → Bounded w → Bounded (run_from w ps)
 unfolding run_from
 run_bounds w [] b = b
-run_bounds w (p ∷ ps) b = run_bounds (step_of w p).watch ps (step_bounds w p b)
+run_bounds w (p ∷ ps) b = run_bounds (after_step w p) ps (step_bounds w p b)
 
 pub watch_bounded : (v : Variable) (ps : List Pair) → Bounded (watch_of v ps)
 unfolding watch_of

@@ -7,11 +7,11 @@ use mathlib.Core.Bool.{Bool, true, false}
 use lib.ListN.{length}
 use lib.Dec.{ltb}
 use borrow.Author.Tests.{ltb-true, ltb-false}
+use Rattle.std.specs.Prelude.{Option, None, Some}
+use Rattle.std.specs.Bool.{then_some}
 use Rattle.watching.specs.Tallies.{tally_of}
-use Rattle.watching.specs.Traces.{Pair, verdicts_of, numbered, earlier, later, fresh}
+use Rattle.watching.specs.Traces.{Pair, verdicts_of, earlier, later, fresh}
 use Rattle.watching.specs.declared.verdicts.Variable.{Variable}
-use Rattle.watching.specs.declared.watch.When.{When}
-use Rattle.watching.specs.declared.watch.When.TheVariants.{Never, At}
 use Rattle.trusting.specs.Merges.{shifted, merged}
 use Rattle.trusting.specs.Promises.{parts_at, wholes_at, IsFirst, IsLast, FirstIsLeast, LastIsGreatest}
 use Rattle.trusting.proofs.Merging.{pair_watch, whole_watch, watch_merged}
@@ -28,27 +28,27 @@ module _ (f g : ℕ → ℕ) (n : ℕ) (next : (j : ℕ) → f (suc j) ≡ g j) 
   front_none e h zero l = none_there (f 0) e
   front_none e h (suc j) l = next j ∙ h j (omega arith)
 
-  first_front : (t : Bool) → ltb 0 (f 0) ≡ t → (x : When) → IsFirst g n x → IsFirst f (suc n) (earlier (numbered t 0) (shifted 1 x))
+  first_front : (t : Bool) → ltb 0 (f 0) ≡ t → (x : Option ℕ) → IsFirst g n x → IsFirst f (suc n) (earlier (then_some t 0) (shifted 1 x))
   first_front true e x h = (omega arith, ltb-true 0 (f 0) e, λ j l. absurd (omega (arith, l)))
-  first_front false e (At i) h = rw (one_more i) (omega (arith, h.0), rw (next i) h.1, before)
+  first_front false e (Some i) h = rw (one_more i) (omega (arith, h.0), rw (next i) h.1, before)
     where
       before : (j : ℕ) → j < suc i → f j ≡ 0
       before zero l = none_there (f 0) e
       before (suc j) l = next j ∙ h.2 j (omega arith)
-  first_front false e Never h = front_none e h
+  first_front false e None h = front_none e h
 
-  last_front : (t : Bool) → ltb 0 (f 0) ≡ t → (x : When) → IsLast g n x → IsLast f (suc n) (later (numbered t 0) (shifted 1 x))
-  last_front t e (At i) h = rw (one_more i) (omega (arith, h.0), rw (next i) h.1, after)
+  last_front : (t : Bool) → ltb 0 (f 0) ≡ t → (x : Option ℕ) → IsLast g n x → IsLast f (suc n) (later (then_some t 0) (shifted 1 x))
+  last_front t e (Some i) h = rw (one_more i) (omega (arith, h.0), rw (next i) h.1, after)
     where
       after : (j : ℕ) → suc i < j → j < suc n → f j ≡ 0
       after zero l m = absurd (omega (arith, l))
       after (suc j) l m = next j ∙ h.2 j (omega (arith, l)) (omega (arith, m))
-  last_front true e Never h = (omega arith, ltb-true 0 (f 0) e, after)
+  last_front true e None h = (omega arith, ltb-true 0 (f 0) e, after)
     where
       after : (j : ℕ) → 0 < j → j < suc n → f j ≡ 0
       after zero l m = absurd (omega (arith, l))
       after (suc j) l m = next j ∙ h j (omega (arith, m))
-  last_front false e Never h = front_none e h
+  last_front false e None h = front_none e h
 
 whole_first : (v : Variable) (ps : List Pair) → IsFirst (parts_at v ps) (length ps) (whole_watch v ps).first
 unfolding whole_watch pair_watch merged fresh

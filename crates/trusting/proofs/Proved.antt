@@ -6,23 +6,25 @@ use mathlib.Core.Path.{◌≡◌, refl, sym, ap, ap₂, ◌∙◌}
 use mathlib.Core.List.{List, [], ◌∷◌, ◌++◌}
 use lib.ListN.{length, take, length-append, length-take}
 use borrow.Author.Tests.{ne_eqb}
+use Rattle.std.specs.Prelude.{Ok}
 use Rattle.laws.specs.Tests.{is_in}
 use Rattle.definition.specs.Addresses.{word}
 use Rattle.definition.specs.Visits.{number_of}
 use Rattle.sets.proofs.Bits.{bits_are}
 use Rattle.watching.specs.Verdicts.{bytes_from, store_touched}
 use Rattle.watching.specs.Tallies.{no_tally, tally_of}
-use Rattle.watching.specs.Traces.{Pair, most_pairs, answer_to, refusals, logged_by, verdicts_of, fresh, taken, untaken, step_of, run_from, watch_of}
+use Rattle.watching.specs.Traces.{Pair, most_pairs, answer_to, refusals, logged_by, verdicts_of, fresh, further, taken, left_by, step_of, after_step, run_from, watch_of}
 use Rattle.watching.specs.declared.verdicts.Variable.{Variable}
 use Rattle.watching.specs.declared.watch.Watch.{Watch}
 use Rattle.watching.proofs.Sums.{summed_none}
 use Rattle.watching.proofs.Walks.{named}
+use Rattle.watching.proofs.Steps.{full_takes, short_takes, step_untaken, step_taken}
 use Rattle.trusting.specs.Merges.{merged}
 use Rattle.trusting.specs.Promises as promised
 use Rattle.trusting.specs.Rows as rows
 use Rattle.trusting.specs.Trust as trusted
 use Rattle.trusting.specs.Strength as strong
-use Rattle.trusting.proofs.Merging.{watch_is, earlier_never, pair_watch, whole_variable, full_takes, short_takes, step_taken, step_untaken, step_merged, watch_merged, watch_first, watch_bounded, whole_append}
+use Rattle.trusting.proofs.Merging.{watch_is, earlier_never, pair_watch, whole_variable, step_merged, watch_merged, watch_first, watch_bounded, whole_append}
 use Rattle.trusting.proofs.Counts as counts
 use Rattle.trusting.proofs.Numbers as numbers
 use Rattle.trusting.proofs.Tables as tables
@@ -60,35 +62,31 @@ module _ (v : Variable) (ps : List Pair) (watched : promised.Watched v) (l : len
   still_watched : promised.Watched (watch_of v ps).variable
   still_watched = rw variable_kept watched
 
-  step_is : (p : Pair) → step_of (watch_of v ps) p ≡ taken (watch_of v ps) (answer_to p) (refusals (answer_to p)) (tally_of (verdicts_of v p))
+  step_is : (p : Pair) → step_of (watch_of v ps) p ≡ Ok (taken (watch_of v ps) (answer_to p) (refusals (answer_to p)) (tally_of (verdicts_of v p)))
   step_is p =
       step_taken (watch_of v ps) p still_watched pairs_counted
-      ∙ ap (λ (u : Variable). taken (watch_of v ps) (answer_to p) (refusals (answer_to p)) (tally_of (verdicts_of u p))) variable_kept
+      ∙ ap (λ (u : Variable). Ok (taken (watch_of v ps) (answer_to p) (refusals (answer_to p)) (tally_of (verdicts_of u p)))) variable_kept
 
-  step_goes : (p : Pair) → (step_of (watch_of v ps) p).watch ≡ merged (watch_of v ps) (pair_watch v p)
+  step_goes : (p : Pair) → after_step (watch_of v ps) p ≡ merged (watch_of v ps) (pair_watch v p)
   step_goes p =
       step_merged (watch_of v ps) p (watch_bounded v ps) pairs_counted still_watched
       ∙ ap (λ (u : Variable). merged (watch_of v ps) (pair_watch u p)) variable_kept
 
 pub step_tells : promised.StepTells
-unfolding taken merged pair_watch
+unfolding taken merged pair_watch after_step
 step_tells v ps p w l =
     let e = step_is v ps w l p in
-    let g = step_goes v ps w l p in (
-      rw e,
-      rw e,
-      rw e,
-      rw (ap (λ s. s.tally) g, ap (λ s. s.tally) e),
-      rw (ap (λ s. s.refused) g),
-    )
+    let g : further (watch_of v ps) (refusals (answer_to p)) (tally_of (verdicts_of v p)) ≡ merged (watch_of v ps) (pair_watch v p) =
+    sym (ap (left_by (watch_of v ps)) e) ∙ step_goes v ps w l p in
+    (taken (watch_of v ps) (answer_to p) (refusals (answer_to p)) (tally_of (verdicts_of v p)), e, refl, refl, ap (λ s. s.tally) g, ap (λ s. s.refused) g)
 
 -- one pair behind a trace
-run_append : (w : Watch) (ps : List Pair) (p : Pair) → run_from w (ps ++ (p ∷ [])) ≡ (step_of (run_from w ps) p).watch
+run_append : (w : Watch) (ps : List Pair) (p : Pair) → run_from w (ps ++ (p ∷ [])) ≡ after_step (run_from w ps) p
 unfolding run_from
 run_append w [] p = refl
-run_append w (q ∷ ps) p = run_append (step_of w q).watch ps p
+run_append w (q ∷ ps) p = run_append (after_step w q) ps p
 
-watch_append : (v : Variable) (ps : List Pair) (p : Pair) → watch_of v (ps ++ (p ∷ [])) ≡ (step_of (watch_of v ps) p).watch
+watch_append : (v : Variable) (ps : List Pair) (p : Pair) → watch_of v (ps ++ (p ∷ [])) ≡ after_step (watch_of v ps) p
 unfolding watch_of
 watch_append v ps p = run_append (fresh v) ps p
 
@@ -110,12 +108,12 @@ refused_pairs v ps p w l h =
     watch_append v ps p ∙ step_goes v ps w l p ∙ merged_refused (watch_of v ps) v p e.0 e.1
 
 pub past_the_limit : promised.PastTheLimit
-unfolding untaken
-past_the_limit w p h = step_untaken w p (full_takes w h)
+unfolding after_step
+past_the_limit w p h = let e = step_untaken w p (full_takes w h) in (e, ap (left_by w) e)
 
 pub no_such_length : promised.NoSuchLength
-unfolding untaken
-no_such_length w p h = step_untaken w p (short_takes w h)
+unfolding after_step
+no_such_length w p h = let e = step_untaken w p (short_takes w h) in (e, ap (left_by w) e)
 
 -- over any number, so that nothing computes with a list of 1,000,000
 beyond : (v : Variable) (n : ℕ) (ps : List Pair) → promised.Watched v → n ≡ most_pairs → watch_of v ps ≡ watch_of v (take n ps)

@@ -9,7 +9,7 @@ use Rattle.promises.specs.Refinement.{Gives}
 use Rattle.promises.proofs.Opened.{opened}
 use Rattle.watching.specs.Verdicts.{bytes_from, among, judged, store_verdict, verdict_of}
 use Rattle.watching.specs.Tallies.{counting, tally_of, added}
-use Rattle.watching.specs.Traces.{Pair, answer_to, logged_by, verdicts_of, fresh, is_taking, further, untaken, taken, step_of, run_from, watch_of}
+use Rattle.watching.specs.Traces.{Pair, answer_to, logged_by, verdicts_of, fresh, is_taking, further, taken, step_of, after_step, run_from, watch_of}
 use Rattle.trusting.specs.Rows.{blind, stores_at}
 use Rattle.trusting.specs.Trust.{Along, end, next, Knowing}
 use Rattle.trusting.specs.Strength.{UnknownBecomes, seen, seen_better, NumbersMove}
@@ -56,5 +56,5 @@ seen_along =
     (next (knowing_itself (stores_at 0x1000) (known_file 0x1000)) (next (blind_knowing 0x1000) end)))
 
 pub numbers_move : NumbersMove
-unfolding opened bytes_from among judged store_verdict verdict_of counting tally_of added answer_to logged_by verdicts_of fresh is_taking further untaken taken step_of run_from watch_of
+unfolding opened bytes_from among judged store_verdict verdict_of counting tally_of added answer_to logged_by verdicts_of fresh is_taking further taken step_of after_step run_from watch_of
 numbers_move = (seen_along, refl, refl)

@@ -9,6 +9,8 @@ use mathlib.Core.Bool.{Bool, true, false, cond, ◌&&◌}
 use lib.ListN.{take}
 use lib.Dec.{ltb, eqb}
 use borrow.Author.Tests.{lt-ltb, ltb-true, eq-eqb, ne_eqb, eqb-true, eqb-false}
+use Rattle.std.specs.Prelude.{Option, None, Some}
+use Rattle.std.specs.Bool.{then_some}
 use Rattle.laws.specs.Words.{bit}
 use Rattle.registers.specs.Files.{file_of, is_file, no_file, slot_of}
 use Rattle.registers.specs.declared.RegisterFile.{RegisterFile}
@@ -25,13 +27,11 @@ use Rattle.promises.proofs.Refine.{steps_agree}
 use Rattle.promises.proofs.Proved.{more_known_refines, more_known_refines_under, agreement_decides}
 use Rattle.watching.specs.Verdicts.{judged, store_verdict, verdict_of}
 use Rattle.watching.specs.Tallies.{counting, tally_of, total}
-use Rattle.watching.specs.Traces.{Pair, most_pairs, full, answer_to, refusals, logged_by, verdicts_of, numbered, earlier, later, fresh, step_of, run_from, watch_of}
+use Rattle.watching.specs.Traces.{Pair, most_pairs, full, answer_to, refusals, logged_by, verdicts_of, earlier, later, fresh, step_of, after_step, run_from, watch_of}
 use Rattle.watching.specs.declared.verdicts.Variable.{Variable}
 use Rattle.watching.specs.declared.verdicts.Verdict.{Verdict}
 use Rattle.watching.specs.declared.verdicts.Verdict.TheVariants.{NoWrite, AddressUnknown, NoneTouched, PartTouched, WholeTouched}
 use Rattle.watching.specs.declared.tallies.Tally.{Tally}
-use Rattle.watching.specs.declared.watch.When.{When}
-use Rattle.watching.specs.declared.watch.When.TheVariants.{Never, At}
 use Rattle.watching.specs.declared.watch.Watch.{Watch}
 use Rattle.watching.proofs.Steps.{done_if}
 use Rattle.trusting.specs.Merges.{shifted, merged}
@@ -134,20 +134,20 @@ never_both : true ≡ false → ⊥
 never_both e = let q : ◌≡◌ {A = ℕ} 0 1 = cc in omega arith
 
 -- one pair in front of numbers that are trusted
-first_no_later : (s t : Bool) → (s ≡ true → t ≡ true) → (x y : When) → NoLater x y → NoLater (earlier (numbered s 0) (shifted 1 x)) (earlier (numbered t 0) (shifted 1 y))
+first_no_later : (s t : Bool) → (s ≡ true → t ≡ true) → (x y : Option ℕ) → NoLater x y → NoLater (earlier (then_some s 0) (shifted 1 x)) (earlier (then_some t 0) (shifted 1 y))
 first_no_later true true i x y h = (0, refl, omega arith)
 first_no_later true false i x y h = absurd (never_both (sym (i refl)))
-first_no_later false true i (At k) y h = (0, refl, omega arith)
-first_no_later false true i Never y h = tt
-first_no_later false false i (At k) y h = (1 + h.0, ap (shifted 1) h.1, omega (arith, h.2))
-first_no_later false false i Never y h = tt
+first_no_later false true i (Some k) y h = (0, refl, omega arith)
+first_no_later false true i None y h = tt
+first_no_later false false i (Some k) y h = (1 + h.0, ap (shifted 1) h.1, omega (arith, h.2))
+first_no_later false false i None y h = tt
 
-last_no_earlier : (s t : Bool) → (s ≡ true → t ≡ true) → (x y : When) → NoEarlier x y → NoEarlier (later (numbered s 0) (shifted 1 x)) (later (numbered t 0) (shifted 1 y))
-last_no_earlier s t i (At k) y h = (1 + h.0, ap (λ z. later (numbered t 0) (shifted 1 z)) h.1, omega (arith, h.2))
-last_no_earlier true true i Never (At j) h = (1 + j, refl, omega arith)
-last_no_earlier true true i Never Never h = (0, refl, omega arith)
-last_no_earlier true false i Never y h = absurd (never_both (sym (i refl)))
-last_no_earlier false t i Never y h = tt
+last_no_earlier : (s t : Bool) → (s ≡ true → t ≡ true) → (x y : Option ℕ) → NoEarlier x y → NoEarlier (later (then_some s 0) (shifted 1 x)) (later (then_some t 0) (shifted 1 y))
+last_no_earlier s t i (Some k) y h = (1 + h.0, ap (λ z. later (then_some t 0) (shifted 1 z)) h.1, omega (arith, h.2))
+last_no_earlier true true i None (Some j) h = (1 + j, refl, omega arith)
+last_no_earlier true true i None None h = (0, refl, omega arith)
+last_no_earlier true false i None y h = absurd (never_both (sym (i refl)))
+last_no_earlier false t i None y h = tt
 
 module _ (v : Variable) where
   pair_counted : {p q : Pair} → Upheld v p q → Counted (tally_of (verdicts_of v p)) (tally_of (verdicts_of v q)) × (refusals (answer_to p) ≡ refusals (answer_to q))
@@ -279,14 +279,14 @@ pair_equal (b, f) (c, g) k =
     let turn : ◌≡◌ {A = Pair} (b, g) (c, g) = ap (λ (l : List ℕ). (l, g)) k.same_record in
     (s.0 ∙ ap answer_to turn, s.1 ∙ ap logged_by turn)
 
-step_equal : (w : Watch) (p q : Pair) → Agreeing p q → (step_of w p).watch ≡ (step_of w q).watch
-unfolding step_of verdicts_of
+step_equal : (w : Watch) (p q : Pair) → Agreeing p q → after_step w p ≡ after_step w q
+unfolding after_step step_of verdicts_of
 step_equal w p q k = let e = pair_equal p q k in rw (e.0, e.1)
 
 run_equal : (w : Watch) {ps qs : List Pair} → Along Agreeing ps qs → run_from w ps ≡ run_from w qs
 unfolding run_from
 run_equal w end = refl
-run_equal w (next {x = p} {y = q} h r) = rw (step_equal w p q h) (run_equal (step_of w q).watch r)
+run_equal w (next {x = p} {y = q} h r) = rw (step_equal w p q h) (run_equal (after_step w q) r)
 
 pub watches_equal : WatchesEqual
 unfolding watch_of

@@ -1,15 +1,13 @@
 -- One trace and then another: what their watches say together.
-use Rattle.std.specs.Prelude.{ℕ, ◌+◌}
+use Rattle.std.specs.Prelude.{ℕ, ◌+◌, Option, None, Some}
 use Rattle.watching.specs.Tallies.{summed}
 use Rattle.watching.specs.Traces.{earlier, later}
-use Rattle.watching.specs.declared.watch.When.{When}
-use Rattle.watching.specs.declared.watch.When.TheVariants.{Never, At}
 use Rattle.watching.specs.declared.watch.Watch.{Watch}
 
 -- a number so much further
-abbrev pub shifted : ℕ → When → When
-shifted n (At i) = At (n + i)
-shifted n Never = Never
+abbrev pub shifted : ℕ → Option ℕ → Option ℕ
+shifted n (Some i) = Some (n + i)
+shifted n None = None
 
 -- counts add; the first is the earlier, the last the later; the second trace's numbers go on behind the first's
 unfoldable pub merged : Watch → Watch → Watch

@@ -1,6 +1,7 @@
 -- WHAT IS PROMISED of a watch over a trace, each statement after its sentence. proofs/Proved.antt proves them all; nothing is assumed.
 -- The definitions that they speak of are those of the crate watching: verdicts over sets of bytes, and a trace as a fold of the step.
-use Rattle.std.specs.Prelude.{ℕ, ◌+◌, ◌*◌, ◌%◌, ◌≤◌, ◌<◌, ◌≡◌, List, [], ◌∷◌, ◌++◌, true, false, ◌&&◌, length, get_or, take, ltb}
+use Rattle.std.specs.Prelude.{ℕ, ◌+◌, ◌*◌, ◌%◌, ◌≤◌, ◌<◌, ◌≡◌, List, [], ◌∷◌, ◌++◌, true, false, ◌&&◌, length, get_or, take, ltb, Option, None, Some, Ok, Err}
+use Rattle.laws.specs.declared.refusals.Refusal.TheVariants.{Outside}
 use Rattle.laws.specs.Words.{bit}
 use Rattle.laws.specs.Lists.{each}
 use Rattle.laws.specs.Tests.{is_in}
@@ -10,16 +11,14 @@ use Rattle.definition.specs.Readings.{read_at}
 use Rattle.definition.specs.Visits.{number_of}
 use Rattle.definition.specs.declared.Event.{Event}
 use Rattle.definition.specs.declared.Event.TheVariants.{RegisterRead, RegisterWrite, MemoryRead, MemoryWrite, UnknownRead, UnknownWrite}
-use Rattle.definition.specs.declared.Answer.TheVariants.{Done}
 use Rattle.definition.specs.declared.Reading.TheVariants.{Found}
 use Rattle.watching.specs.Verdicts.{is_length, bytes_from, verdict_of, store_touched, touched_of, name_at}
 use Rattle.watching.specs.Tallies.{no_tally, tally_of, total, summed}
-use Rattle.watching.specs.Traces.{Pair, most_pairs, answer_to, refusals, logged_by, verdicts_of, step_of, watch_of}
+use Rattle.watching.specs.Traces.{Pair, most_pairs, answer_to, refusals, logged_by, verdicts_of, step_of, after_step, watch_of}
 use Rattle.watching.specs.declared.verdicts.Variable.{Variable}
 use Rattle.watching.specs.declared.verdicts.Naming.TheVariants.{Named}
-use Rattle.watching.specs.declared.watch.When.{When}
-use Rattle.watching.specs.declared.watch.When.TheVariants.{Never, At}
 use Rattle.watching.specs.declared.watch.Watch.{Watch}
+use Rattle.watching.specs.declared.watch.Stepped.{Stepped}
 use Rattle.trusting.specs.Merges.{merged}
 
 -- a variable that `Watch::new` does not refuse
@@ -64,14 +63,14 @@ parts_at v ps i = (tally_of (verdicts_of v (get_or ps i ([], [])))).part
 abbrev pub wholes_at : Variable → List Pair → ℕ → ℕ
 wholes_at v ps i = (tally_of (verdicts_of v (get_or ps i ([], [])))).whole
 
--- the least number below n that has some, and the greatest; Never where none has
-abbrev pub IsFirst : (ℕ → ℕ) → ℕ → When → Type 0
-IsFirst f n (At i) = (i < n) × (0 < f i) × ((j : ℕ) → j < i → f j ≡ 0)
-IsFirst f n Never = (j : ℕ) → j < n → f j ≡ 0
+-- the least number below n that has some, and the greatest; None where none has
+abbrev pub IsFirst : (ℕ → ℕ) → ℕ → Option ℕ → Type 0
+IsFirst f n (Some i) = (i < n) × (0 < f i) × ((j : ℕ) → j < i → f j ≡ 0)
+IsFirst f n None = (j : ℕ) → j < n → f j ≡ 0
 
-abbrev pub IsLast : (ℕ → ℕ) → ℕ → When → Type 0
-IsLast f n (At i) = (i < n) × (0 < f i) × ((j : ℕ) → i < j → j < n → f j ≡ 0)
-IsLast f n Never = (j : ℕ) → j < n → f j ≡ 0
+abbrev pub IsLast : (ℕ → ℕ) → ℕ → Option ℕ → Type 0
+IsLast f n (Some i) = (i < n) × (0 < f i) × ((j : ℕ) → i < j → j < n → f j ≡ 0)
+IsLast f n None = (j : ℕ) → j < n → f j ≡ 0
 
 -- FIRST is the least number of a pair with a part verdict, LAST the greatest of one with a whole verdict.
 abbrev pub FirstIsLeast : Type 0
@@ -83,7 +82,7 @@ LastIsGreatest = (v : Variable) (ps : List Pair) → Watched v → Within ps →
 -- An empty trace gives zeros and no numbers.
 abbrev pub EmptyTrace : Type 0
 EmptyTrace =
-    (v : Variable) → watch_of v [] ≡ record { variable = v; pairs = 0; tally = no_tally; refused = 0; first = Never; last = Never }
+    (v : Variable) → watch_of v [] ≡ record { variable = v; pairs = 0; tally = no_tally; refused = 0; first = None; last = None }
 
 -- NOTHING WRAPS, whatever the trace: the counts stay within the events that a million logs can have.
 abbrev pub NothingWraps : Type 0
@@ -98,11 +97,11 @@ NothingWraps =
 abbrev pub StepTells : Type 0
 StepTells =
     (v : Variable) (ps : List Pair) (p : Pair) → Watched v → length ps < most_pairs
-    → ((step_of (watch_of v ps) p).number ≡ 0)
-    × ((step_of (watch_of v ps) p).visit ≡ answer_to p)
-    × ((step_of (watch_of v ps) p).tally ≡ tally_of (verdicts_of v p))
-    × ((step_of (watch_of v ps) p).watch.tally ≡ summed (watch_of v ps).tally (step_of (watch_of v ps) p).tally)
-    × ((step_of (watch_of v ps) p).watch.refused ≡ (watch_of v ps).refused + refusals (answer_to p))
+    → (s : Stepped) × (step_of (watch_of v ps) p ≡ Ok s)
+    × (s.visit ≡ answer_to p)
+    × (s.tally ≡ tally_of (verdicts_of v p))
+    × (s.watch.tally ≡ summed (watch_of v ps).tally s.tally)
+    × (s.watch.refused ≡ (watch_of v ps).refused + refusals (answer_to p))
 
 -- the watch with one refused pair more
 abbrev pub refused_once : Watch → Watch
@@ -119,12 +118,12 @@ RefusedPairs =
 -- that a variable has.
 abbrev pub PastTheLimit : Type 0
 PastTheLimit =
-    (w : Watch) (p : Pair) → most_pairs ≤ w.pairs → step_of w p ≡ record { number = 2; visit = Done 0; tally = no_tally; watch = w }
+    (w : Watch) (p : Pair) → most_pairs ≤ w.pairs → (step_of w p ≡ Err Outside) × (after_step w p ≡ w)
 
 abbrev pub NoSuchLength : Type 0
 NoSuchLength =
     (w : Watch) (p : Pair) → is_length w.variable.length ≡ false
-    → step_of w p ≡ record { number = 2; visit = Done 0; tally = no_tally; watch = w }
+    → (step_of w p ≡ Err Outside) × (after_step w p ≡ w)
 
 -- So a trace past the limit leaves the watch of its first 1,000,000 pairs.
 abbrev pub BeyondTheLimit : Type 0

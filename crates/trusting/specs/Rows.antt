@@ -1,13 +1,11 @@
 -- Tables: stores against a variable, and short traces.
-use Rattle.std.specs.Prelude.{ℕ, ◌-◌, ◌^◌, List, [], ◌∷◌}
+use Rattle.std.specs.Prelude.{ℕ, ◌-◌, ◌^◌, List, [], ◌∷◌, Option, None, Some}
 use Rattle.promises.specs.Rows.{record_with, opcode, specs, regs, size, behavior, access, file_knowing, knows, Q, RegRRR, Deref, Deref_rdi, Table}
 use Rattle.watching.specs.Verdicts.{variable, store_verdict, store_touched}
 use Rattle.watching.specs.Traces.{Pair, verdicts_of, watch_of}
 use Rattle.watching.specs.declared.verdicts.Variable.{Variable}
 use Rattle.watching.specs.declared.verdicts.Verdict.{Verdict}
 use Rattle.watching.specs.declared.verdicts.Verdict.TheVariants.{NoWrite, AddressUnknown, NoneTouched, PartTouched, WholeTouched}
-use Rattle.watching.specs.declared.watch.When.{When}
-use Rattle.watching.specs.declared.watch.When.TheVariants.{Never, At}
 use Rattle.watching.specs.declared.watch.Watch.{Watch}
 
 -- a variable, and a store of n bytes at an address
@@ -85,7 +83,7 @@ verdicts =
     ∷ []
 
 -- pairs, unknown, none, part, whole, refused, first, last
-abbrev pub told : ℕ → ℕ → ℕ → ℕ → ℕ → ℕ → When → When → Watch
+abbrev pub told : ℕ → ℕ → ℕ → ℕ → ℕ → ℕ → Option ℕ → Option ℕ → Watch
 told p u n a w r f l =
     record {
       variable = position;
@@ -99,11 +97,11 @@ told p u n a w r f l =
 -- refused pairs keep their numbers; the first part write stays and the last whole one moves; one record may be both
 unfoldable pub traces : List (List Pair × Watch)
 traces =
-    ([], told 0 0 0 0 0 0 Never Never)
-    ∷ (blind ∷ stores_at 0xFFC ∷ stores_at 0x1000 ∷ blind ∷ [], told 4 2 0 1 1 0 (At 1) (At 2))
-    ∷ (stores_at 0x1000 ∷ stores_at 0x1004 ∷ stores_at 0x1000 ∷ stores_at 0xFFC ∷ [], told 4 0 0 2 2 0 (At 1) (At 2))
-    ∷ (no_record ∷ stores_at 0xFFC ∷ no_file ∷ complex_one ∷ stores_at 0x2000 ∷ [], told 5 0 1 1 0 3 (At 1) Never)
-    ∷ (reads ∷ both ∷ reads ∷ [], told 3 0 0 1 1 0 (At 1) (At 1))
+    ([], told 0 0 0 0 0 0 None None)
+    ∷ (blind ∷ stores_at 0xFFC ∷ stores_at 0x1000 ∷ blind ∷ [], told 4 2 0 1 1 0 (Some 1) (Some 2))
+    ∷ (stores_at 0x1000 ∷ stores_at 0x1004 ∷ stores_at 0x1000 ∷ stores_at 0xFFC ∷ [], told 4 0 0 2 2 0 (Some 1) (Some 2))
+    ∷ (no_record ∷ stores_at 0xFFC ∷ no_file ∷ complex_one ∷ stores_at 0x2000 ∷ [], told 5 0 1 1 0 3 (Some 1) None)
+    ∷ (reads ∷ both ∷ reads ∷ [], told 3 0 0 1 1 0 (Some 1) (Some 1))
     ∷ []
 
 abbrev pub RowsHold : Type 0

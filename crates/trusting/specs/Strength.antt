@@ -1,9 +1,8 @@
 -- Trust says no more than is true: what may change does change, in examples that are computed.
-use Rattle.std.specs.Prelude.{ℕ, ◌≡◌, List, [], ◌∷◌}
+use Rattle.std.specs.Prelude.{ℕ, ◌≡◌, List, [], ◌∷◌, Some}
 use Rattle.watching.specs.Traces.{Pair, verdicts_of, watch_of}
 use Rattle.watching.specs.declared.verdicts.Verdict.{Verdict}
 use Rattle.watching.specs.declared.verdicts.Verdict.TheVariants.{NoWrite, AddressUnknown, NoneTouched, PartTouched, WholeTouched}
-use Rattle.watching.specs.declared.watch.When.TheVariants.{At}
 use Rattle.trusting.specs.Rows.{position, blind, stores_at, told}
 use Rattle.trusting.specs.Trust.{Along, Knowing}
 
@@ -28,5 +27,5 @@ seen_better = stores_at 0x1004 ∷ stores_at 0xFFC ∷ stores_at 0x1000 ∷ stor
 abbrev pub NumbersMove : Type 0
 NumbersMove =
     Along Knowing seen seen_better
-    × (watch_of position seen ≡ told 4 2 0 1 1 0 (At 1) (At 2))
-    × (watch_of position seen_better ≡ told 4 0 0 2 2 0 (At 0) (At 3))
+    × (watch_of position seen ≡ told 4 2 0 1 1 0 (Some 1) (Some 2))
+    × (watch_of position seen_better ≡ told 4 0 0 2 2 0 (Some 0) (Some 3))

@@ -1,7 +1,7 @@
 -- TRUST OVER A WHOLE RECORDING: demand 3 for a watch. Two traces have the same records and are replayed against the same variable; at each
 -- step both files are well-formed, and the second knows all that the first knows, with equal values. What was found in the first run
 -- stands in the second. The statements hold for traces of any length. proofs/Trust.antt proves them; nothing is assumed.
-use Rattle.std.specs.Prelude.{ℕ, ◌≤◌, ◌≡◌, List, [], ◌∷◌, true}
+use Rattle.std.specs.Prelude.{ℕ, ◌≤◌, ◌≡◌, List, [], ◌∷◌, true, Option, None, Some}
 use Rattle.registers.specs.Files.{file_of, is_file}
 use Rattle.definition.specs.Visits.{number_of}
 use Rattle.promises.specs.Refinement.{Extends, AgreeOn}
@@ -10,8 +10,6 @@ use Rattle.watching.specs.Traces.{Pair, answer_to, logged_by, verdicts_of, watch
 use Rattle.watching.specs.declared.verdicts.Variable.{Variable}
 use Rattle.watching.specs.declared.verdicts.Verdict.{Verdict}
 use Rattle.watching.specs.declared.verdicts.Verdict.TheVariants.{AddressUnknown, NoneTouched, PartTouched, WholeTouched}
-use Rattle.watching.specs.declared.watch.When.{When}
-use Rattle.watching.specs.declared.watch.When.TheVariants.{Never, At}
 use Rattle.watching.specs.declared.watch.Watch.{Watch}
 use Rattle.trusting.specs.Promises.{Watched}
 
@@ -43,13 +41,13 @@ abbrev pub VerdictsStand : Type 0
 VerdictsStand = (v : Variable) (ps qs : List Pair) → Along Knowing ps qs → Along (Upheld v) ps qs
 
 -- what was found is found no later, and no earlier
-abbrev pub NoLater : When → When → Type 0
-NoLater (At i) y = (j : ℕ) × (y ≡ At j) × (j ≤ i)
-NoLater Never y = Unit {0}
+abbrev pub NoLater : Option ℕ → Option ℕ → Type 0
+NoLater (Some i) y = (j : ℕ) × (y ≡ Some j) × (j ≤ i)
+NoLater None y = Unit {0}
 
-abbrev pub NoEarlier : When → When → Type 0
-NoEarlier (At i) y = (j : ℕ) × (y ≡ At j) × (i ≤ j)
-NoEarlier Never y = Unit {0}
+abbrev pub NoEarlier : Option ℕ → Option ℕ → Type 0
+NoEarlier (Some i) y = (j : ℕ) × (y ≡ Some j) × (i ≤ j)
+NoEarlier None y = Unit {0}
 
 -- What the second watch keeps of the first: the unknown count never grows; none, part and whole never fall; the write events and the
 -- refused pairs are as many; a first part write is found no later, a last whole one no earlier.

@@ -7,19 +7,19 @@ use mathlib.Core.List.{List, [], ◌∷◌}
 use mathlib.Core.Bool.{Bool, true, false, cond}
 use lib.Dec.{eqb}
 use borrow.Author.Tests.{ne_eqb, eqb-true}
+use Rattle.std.specs.Prelude.{Option, None, Some, Result, IfOk}
+use Rattle.laws.specs.declared.refusals.Refusal.{Refusal}
 use Rattle.laws.proofs.Choice.{either}
 use Rattle.definition.specs.Readings.{read_at}
 use Rattle.definition.specs.declared.Reading.{Reading}
 use Rattle.definition.specs.declared.Reading.TheVariants.{Found, Bad, Finished}
 use Rattle.watching.specs.Verdicts.{is_length, named_by, name_at}
 use Rattle.watching.specs.Tallies.{total}
-use Rattle.watching.specs.Traces.{Pair, is_taking, untaken, taken, step_of}
+use Rattle.watching.specs.Traces.{Pair, is_taking, taken, step_of}
 use Rattle.watching.specs.declared.verdicts.Variable.{Variable}
 use Rattle.watching.specs.declared.verdicts.Verdict.{Verdict}
 use Rattle.watching.specs.declared.verdicts.Naming.{Naming}
 use Rattle.watching.specs.declared.verdicts.Naming.TheVariants.{Named, Unnamed, Ended}
-use Rattle.watching.specs.declared.watch.When.{When}
-use Rattle.watching.specs.declared.watch.When.TheVariants.{Never, At}
 use Rattle.watching.specs.declared.watch.Watch.{Watch}
 use Rattle.watching.specs.declared.watch.Stepped.{Stepped}
 use Rattle.watching.proofs.Steps.{pair_few}
@@ -27,11 +27,13 @@ use Rattle.watch_words.specs.Words.{never, when_in, when_word, watch_in, words_o
 use Rattle.answers.proofs.Lengths.{leads_on}
 
 -- a step's counts fit in bytes
-pub step_few : (w : Watch) (p : Pair) → total (step_of w p).tally < 2 ^ 8
-unfolding step_of taken untaken
+abbrev pub Few : Result Stepped Refusal → Type 0
+Few r = IfOk r (λ s. total s.tally < 2 ^ 8)
+
+pub step_few : (w : Watch) (p : Pair) → Few (step_of w p)
+unfolding step_of taken
 step_few w p =
-    either (λ (s : Stepped). total s.tally < 2 ^ 8) (is_taking w) _ _
-    (λ t. omega (arith, pair_few w.variable p)) (λ t. omega arith)
+    either Few (is_taking w) _ _ (λ t. omega (arith, pair_few w.variable p)) (λ t. tt)
 
 -- a named event ends further on, and is not long
 abbrev Leads : ℕ → Naming → Type 0
@@ -52,7 +54,7 @@ name_leads v l at h =
     subst (Leads at) h (either (Leads at) (is_length v.length) _ _ (λ t. named_leads v l at (read_at l at) refl) (λ t. tt))
 
 -- THE WORDS ARE KEPT: whatever ten words a caller has, the watch that they are has these words; so a refused step leaves them
-when_kept : (n : ℕ) (t : Bool) → eqb n never ≡ t → when_word (cond t Never (At n)) ≡ n
+when_kept : (n : ℕ) (t : Bool) → eqb n never ≡ t → when_word (cond t None (Some n)) ≡ n
 when_kept n true e = sym (eqb-true n never e)
 when_kept n false e = refl
 
@@ -61,13 +63,13 @@ unfolding words_of watch_in
 words_kept a b c d e f g h i j = rw (when_kept i (eqb i never) refl, when_kept j (eqb j never) refl)
 
 -- and a watch whose numbers are below all ones, so every watch that began new, is that of its words
-abbrev Small : When → Type 0
-Small Never = Unit {0}
-Small (At n) = n < never
+abbrev Small : Option ℕ → Type 0
+Small None = Unit {0}
+Small (Some n) = n < never
 
-when_round : (x : When) → Small x → when_in (when_word x) ≡ x
-when_round Never s = refl
-when_round (At n) s = rw (ne_eqb n never (λ e. omega (arith, e)))
+when_round : (x : Option ℕ) → Small x → when_in (when_word x) ≡ x
+when_round None s = refl
+when_round (Some n) s = rw (ne_eqb n never (λ e. omega (arith, e)))
 
 pub watch_kept : (w : Watch) → Small w.first → Small w.last → watch_in (words_of w) ≡ w
 unfolding words_of watch_in

@@ -1,5 +1,7 @@
 -- What the calls on a watch answer: which bits of the number hold what. Bits not named are 0.
-use Rattle.std.specs.Prelude.{ℕ, ◌+◌, ◌-◌}
+use Rattle.std.specs.Prelude.{ℕ, ◌+◌, ◌-◌, Result, Ok, Err}
+use Rattle.laws.specs.Refusals.{refusal_number}
+use Rattle.laws.specs.declared.refusals.Refusal.{Refusal}
 use Rattle.answers.specs.Answers.{at}
 use Rattle.definition.specs.Visits.{number_of, opcode_of}
 use Rattle.watching.specs.Verdicts.{verdict_number}
@@ -13,8 +15,9 @@ use Rattle.watching.specs.declared.watch.Stepped.{Stepped}
 abbrev pub tally_bits : Tally → ℕ
 tally_bits t = t.unknown + at 8 t.none + at 16 t.part + at 24 t.whole
 
-abbrev pub stepped_bits : Stepped → ℕ
-stepped_bits s = s.number + at 8 (number_of s.visit) + at 16 (tally_bits s.tally) + at 48 (opcode_of s.visit)
+abbrev pub stepped_bits : Result Stepped Refusal → ℕ
+stepped_bits (Ok s) = at 8 (number_of s.visit) + at 16 (tally_bits s.tally) + at 48 (opcode_of s.visit)
+stepped_bits (Err r) = refusal_number r
 
 -- verdict: 0-7 number (255 finished), 8-15 the verdict's number, 16-23 a bit for each byte of the variable that was written, 32-63 the
 -- event's length in bytes

@@ -1,22 +1,19 @@
 -- A watch as the ten words that a C caller keeps: address, length, pairs taken; write events unknown, none, part, whole; refused pairs;
 -- the number of the first pair with a part write and of the last with a whole one, all ones where there is none.
-use Rattle.std.specs.Prelude.{ℕ, ◌-◌, ◌^◌, List, [], ◌∷◌, cond, get_or, eqb}
+use Rattle.std.specs.Prelude.{ℕ, ◌-◌, ◌^◌, List, [], ◌∷◌, cond, get_or, eqb, Option, None, Some, unwrap_or, Result, Ok, Err}
+use Rattle.laws.specs.Refusals.{refusal_number}
+use Rattle.laws.specs.declared.refusals.Refusal.{Refusal}
 use Rattle.watching.specs.Verdicts.{variable}
-use Rattle.watching.specs.declared.watch.When.{When}
-use Rattle.watching.specs.declared.watch.When.TheVariants.{Never, At}
 use Rattle.watching.specs.declared.watch.Watch.{Watch}
-use Rattle.watching.specs.declared.watch.WatchAnswer.{WatchAnswer}
-use Rattle.watching.specs.declared.watch.WatchAnswer.TheVariants.{Done, Refused}
 
 abbrev pub never : ℕ
 never = 2 ^ 64 - 1
 
-abbrev pub when_in : ℕ → When
-when_in n = cond (eqb n never) Never (At n)
+abbrev pub when_in : ℕ → Option ℕ
+when_in n = cond (eqb n never) None (Some n)
 
-abbrev pub when_word : When → ℕ
-when_word Never = never
-when_word (At n) = n
+abbrev pub when_word : Option ℕ → ℕ
+when_word x = unwrap_or x never
 
 unfoldable pub watch_in : List ℕ → Watch
 watch_in l =
@@ -36,6 +33,6 @@ words_of w =
     ∷ w.refused ∷ when_word w.first ∷ when_word w.last ∷ []
 
 -- a new watch's number and words; refused, the old words stay
-abbrev pub new_words : WatchAnswer → List ℕ → ℕ × List ℕ
-new_words (Done w) old = (0, words_of w)
-new_words (Refused k) old = (k, old)
+abbrev pub new_words : Result Watch Refusal → List ℕ → ℕ × List ℕ
+new_words (Ok w) old = (0, words_of w)
+new_words (Err r) old = (refusal_number r, old)

@@ -1,63 +1,65 @@
 // A watch as the ten words that a C caller keeps. Any words at all get an answer.
 ghost use Rattle.std.specs.Prelude.{◌≡◌};
-ghost use Rattle.watching.specs.Traces.{new_of, step_of};
+ghost use Rattle.watching.specs.Traces.{new_of, left_by, step_of, after_step};
 ghost use Rattle.watch_words.specs.Bits.{stepped_bits};
 ghost use Rattle.watch_words.specs.Words.{when_in, when_word, watch_in, words_of, new_words};
 
 use crate::bits::stepped_bits;
-use watching::{Tally, Variable, Watch, WatchAnswer, When};
+use laws::Refusal;
+use watching::{Stepped, Tally, Variable, Watch};
 
 // The word for no number.
-const NEVER: u64 = 18446744073709551615;
+const NEVER: u64 = u64::MAX;
 
-fn when_in(word: u64) -> When
+fn when_in(word: u64) -> Option<u64>
     ensures { result ≡ when_in word }
 {
-    if word == NEVER {
-        return When::Never;
-    }
-    When::At(word)
+    (word != NEVER).then_some(word)
 }
 
-fn when_word(w: When) -> u64
-    ensures { result ≡ when_word w }
+fn when_word(number: Option<u64>) -> u64
+    ensures { result ≡ when_word number }
 {
-    match w {
-        When::Never => NEVER,
-        When::At(number) => number,
-    }
+    number.unwrap_or(NEVER)
 }
 
+// Stays: no From between Watch and [u64; 10] may stand here, since neither is this crate's, and a type of its own round the words would
+// be put on and taken off in both calls.
+#[tactic(auto, unfolding(crate::specs::Words::watch_in))]
 fn watch_in(words: &[u64; 10]) -> Watch
     ensures { result ≡ watch_in words.now }
 {
-    let variable = Variable {
-        address: words[0],
-        length: words[1],
-    };
-    let tally = Tally {
-        unknown: words[3],
-        none: words[4],
-        part: words[5],
-        whole: words[6],
-    };
-    let first = when_in(words[8]);
-    let last = when_in(words[9]);
+    let [
+        address,
+        length,
+        pairs,
+        unknown,
+        none,
+        part,
+        whole,
+        refused,
+        first,
+        last,
+    ] = *words;
     Watch {
-        variable: variable,
-        pairs: words[2],
-        tally: tally,
-        refused: words[7],
-        first: first,
-        last: last,
+        variable: Variable { address, length },
+        pairs,
+        tally: Tally {
+            unknown,
+            none,
+            part,
+            whole,
+        },
+        refused,
+        first: when_in(first),
+        last: when_in(last),
     }
 }
 
+#[tactic(auto, unfolding(crate::specs::Words::words_of))]
 fn words_of(w: Watch) -> [u64; 10]
     ensures { result ≡ words_of w }
 {
-    let first = w.first;
-    let last = w.last;
     [
         w.variable.address,
         w.variable.length,
@@ -67,30 +69,39 @@ fn words_of(w: Watch) -> [u64; 10]
         w.tally.part,
         w.tally.whole,
         w.refused,
-        when_word(first),
-        when_word(last),
+        when_word(w.first),
+        when_word(w.last),
     ]
 }
 
 pub fn new_watch(watch: &mut [u64; 10], address: u64, length: u64) -> u64
     ensures { (result, watch.new) ≡ new_words (new_of address length) watch.old }
 {
-    let made = Watch::new(address, length);
-    match made {
-        WatchAnswer::Done(fresh) => {
+    match Watch::new(address, length) {
+        Ok(fresh) => {
             *watch = words_of(fresh);
             0
         }
-        WatchAnswer::Refused(number) => number as u64,
+        Err(refusal) => u64::from(u8::from(refusal)),
+    }
+}
+
+// The watch after a step: one that is refused changes nothing.
+fn left_by(w: Watch, stepped: Result<Stepped, Refusal>) -> Watch
+    ensures { result ≡ left_by w stepped }
+{
+    match stepped {
+        Ok(s) => s.watch,
+        Err(_) => w,
     }
 }
 
 pub fn step_watch(watch: &mut [u64; 10], bytes: &[u8], file: &[u8]) -> u64
-    ensures { (watch.new ≡ words_of (step_of (watch_in watch.old) (bytes.now, file.now)).watch)
+    ensures { (watch.new ≡ words_of (after_step (watch_in watch.old) (bytes.now, file.now)))
         × (result ≡ stepped_bits (step_of (watch_in watch.old) (bytes.now, file.now))) }
 {
-    let stepped = watch_in(watch).step(bytes, file);
-    let after = stepped.watch;
-    *watch = words_of(after);
+    let before = watch_in(watch);
+    let stepped = before.step(bytes, file);
+    *watch = words_of(left_by(before, stepped));
     stepped_bits(stepped)
 }

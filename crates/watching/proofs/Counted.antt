@@ -1,7 +1,5 @@
 -- The tally of the events from a place on, as a walk counts them. Assumes nothing.
-use Rattle.std.proofs.Common.{◌≡◌, ℕ, ◌⊎◌, List, map, sym, ap, ◌∙◌}
-use denote.Enum.Declared.{tag_of, declared}
-use Rattle.definition.specs.contracts.Reading.{enum}
+use Rattle.std.proofs.Common.{◌≡◌, ℕ, List, map, sym, ap, ◌∙◌}
 use Rattle.definition.specs.Readings.{read_at}
 use Rattle.definition.specs.declared.Event.{Event}
 use Rattle.definition.specs.declared.Reading.{Reading}
@@ -13,7 +11,7 @@ use Rattle.watching.specs.declared.verdicts.Variable.{Variable}
 use Rattle.watching.specs.declared.verdicts.Verdict.{Verdict}
 use Rattle.watching.specs.declared.tallies.Tally.{Tally}
 use Rattle.watching.proofs.Sums.{summed_none, none_summed, counting_over}
-use Rattle.watching.proofs.Walks.{left, whole, stopped, read_on}
+use Rattle.watching.proofs.Walks.{left, whole, NoneFound, stopped, read_on}
 
 module _ (v : Variable) (l : List ℕ) where
   abbrev pub rest : ℕ → Tally
@@ -33,6 +31,6 @@ module _ (v : Variable) (l : List ℕ) where
       ∙ ap (λ (u : Tally). summed u (rest k)) (ap (λ (y : Verdict). counting y s) (sym h) ∙ sym c)
 
   -- none was read: nothing is left
-  pub ends : (at : ℕ) (r : Reading) (s : Tally) → r ≡ read_at l at → (tag_of (declared enum) r ≡ 1) ⊎ (tag_of (declared enum) r ≡ 2) → s ≡ summed s (rest at)
+  pub ends : (at : ℕ) (r : Reading) (s : Tally) → r ≡ read_at l at → NoneFound r → s ≡ summed s (rest at)
   unfolding tally_of
   ends at r s e h = sym (ap (λ (es : List Event). summed s (tally_of (map (verdict_of v) es))) (stopped l at r e h) ∙ summed_none s)

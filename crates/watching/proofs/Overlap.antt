@@ -1,5 +1,5 @@
 -- The code's two distances and three comparisons say what the count over sets of bytes says. Assumes nothing.
-use Rattle.std.proofs.Common.{◌≡◌, ℕ, zero, suc, ◌+◌, ◌-◌, ◌%◌, ◌^◌, ◌<◌, ◌≤◌, Bool, true, false, cond, eqb, ltb, leb, List, sym, refl, ap, ◌∙◌, arith, ltb-false, ltb-true, le-ltb, lt-ltb, eq-eqb, ne_eqb, eqb-true, leb-true}
+use Rattle.std.proofs.Common.{◌≡◌, ℕ, zero, suc, ◌+◌, ◌-◌, ◌%◌, ◌^◌, ◌<◌, ◌≤◌, Bool, true, false, cond, eqb, ltb, leb, List, sym, refl, ◌∙◌, arith, ltb-false, ltb-true, le-ltb, lt-ltb, eq-eqb, ne_eqb, eqb-true, leb-true}
 use borrow.Author.Tests.{eqb-false}
 use Rattle.laws.specs.Tests.{any, is_in}
 use Rattle.laws.proofs.Choice.{and_left, and_right}
@@ -9,12 +9,9 @@ use Rattle.watching.specs.Verdicts.{is_length, bytes_from, among, judged, store_
 use Rattle.watching.specs.declared.verdicts.Variable.{Variable}
 use Rattle.watching.specs.declared.verdicts.Verdict.TheVariants.{NoneTouched, PartTouched, WholeTouched}
 
--- how far a lies behind b on the circle of addresses, and that a wrapping difference is that
+-- how far a lies behind b on the circle of addresses: a wrapping difference
 abbrev pub behind : ℕ → ℕ → ℕ
 behind a b = (a + (word - b)) % word
-
-pub subtracted : (r a b : ℕ) → r < 2 ^ 64 → b < 2 ^ 64 → (r + b) % 2 ^ 64 ≡ a → r ≡ behind a b
-subtracted r a b hr hb e = omega arith
 
 -- a byte is n behind a, or it is not
 at_distance : (x a n : ℕ) → x < 2 ^ 64 → a < 2 ^ 64 → n < 2 ^ 64 → behind x a ≡ n → x ≡ (a + n) % word
@@ -44,12 +41,8 @@ is_among x a (suc n) hx ha hn = go (is_among x a n hx ha (omega arith)) (eqb x (
         rw e (by_rest rest (λ h. eqb-false x ((a + n) % word) e (at_distance x a n hx ha (omega arith) h)) (ltb (behind x a) n) refl)
 
 -- so a byte of the variable is among a store's where its distance says so
-pub touching :
-    (v i a n byte r : ℕ) → a < 2 ^ 64 → n < 2 ^ 8 → r < 2 ^ 64 → byte ≡ (v + i) % 2 ^ 64 → (r + a) % 2 ^ 64 ≡ byte
-    → ltb r n ≡ is_in ((v + i) % word) (bytes_from a n)
-touching v i a n byte r ha hn hr e d =
-    ap (λ (x : ℕ). ltb x n) (subtracted r byte a hr ha d ∙ ap (λ (x : ℕ). behind x a) e)
-    ∙ sym (is_among ((v + i) % word) a n (omega arith) ha (omega arith))
+pub touching : (v i a n : ℕ) → a < 2 ^ 64 → n < 2 ^ 8 → ltb (behind ((v + i) % word) a) n ≡ is_in ((v + i) % word) (bytes_from a n)
+touching v i a n ha hn = sym (is_among ((v + i) % word) a n (omega arith) ha (omega arith))
 
 -- how many of the n bytes from an address on are among these: at most n; less where one is not, more than 0 where one is
 module _ (address : ℕ) (those : List ℕ) where
@@ -178,23 +171,22 @@ module _ (v : Variable) (a n : ℕ) (hv : v.address < 2 ^ 64) (ha : a < 2 ^ 64) 
       let l = leb-true v.length 8 (and_right (leb 1 v.length) (leb v.length 8) hl) in
       let m = leb-true n 64 (and_right (leb 1 n) (leb n 64) hn) in omega arith
 
-  -- the variable starts `after` the store's start, the store `before` the variable's
-  pub store_whole : (after : ℕ) → after ≡ behind v.address a → after < n → v.length ≤ n - after → WholeTouched ≡ store_verdict v a n
+  -- the variable starts so far behind the store's start, or the store behind the variable's
+  pub store_whole : behind v.address a < n → v.length ≤ n - behind v.address a → WholeTouched ≡ store_verdict v a n
   unfolding store_verdict
-  store_whole after e h k = sym (whole_is v.address a v.length n hv ha long some room (omega (arith, e)))
+  store_whole h k = sym (whole_is v.address a v.length n hv ha long some room (omega arith))
 
-  pub store_front : (after : ℕ) → after ≡ behind v.address a → after < n → n - after < v.length → PartTouched ≡ store_verdict v a n
+  pub store_front : behind v.address a < n → n - behind v.address a < v.length → PartTouched ≡ store_verdict v a n
   unfolding store_verdict
-  store_front after e h k = sym (front_is v.address a v.length n hv ha long some room (omega (arith, e)) (omega (arith, e)))
+  store_front h k = sym (front_is v.address a v.length n hv ha long some room h (omega arith))
 
-  pub store_back :
-      (after before : ℕ) → after ≡ behind v.address a → before ≡ behind a v.address
-      → n ≤ after → before < v.length → PartTouched ≡ store_verdict v a n
+  pub store_back : n ≤ behind v.address a → behind a v.address < v.length → PartTouched ≡ store_verdict v a n
   unfolding store_verdict
-  store_back after before e f h k = sym (back_is v.address a v.length n hv ha long some room (omega (arith, e)) (omega (arith, f)))
+  store_back h k = sym (back_is v.address a v.length n hv ha long some room h k)
 
-  pub store_none :
-      (after before : ℕ) → after ≡ behind v.address a → before ≡ behind a v.address
-      → n ≤ after → v.length ≤ before → NoneTouched ≡ store_verdict v a n
+  pub store_none : n ≤ behind v.address a → v.length ≤ behind a v.address → NoneTouched ≡ store_verdict v a n
   unfolding store_verdict
-  store_none after before e f h k = sym (none_is v.address a v.length n hv ha long some room (omega (arith, e)) (omega (arith, f)))
+  store_none h k = sym (none_is v.address a v.length n hv ha long some room h k)
+
+-- the four of them
+pub ruleset stores = (store_whole, store_front, store_back, store_none)

@@ -1,10 +1,9 @@
 -- A step case by case, on plain variables. Assumes nothing.
-use Rattle.std.proofs.Common.{◌≡◌, ℕ, suc, ◌<◌, ◌≤◌, true, false, not, eqb, ltb, ◌⊎◌, List, [], ◌∷◌, map, length, take, sym, refl, ap, ◌∙◌, ⊎_elim, arith, ltb-true, eq-eqb, ne_eqb}
-use denote.Enum.Declared.{tag_of, declared}
-use Rattle.laws.proofs.Choice.{and_left, and_right, either}
+use Rattle.std.proofs.Common.{◌≡◌, ℕ, suc, ◌<◌, ◌≤◌, Bool, true, false, ◌&&◌, not, eqb, List, [], ◌∷◌, map, length, take, Ok, Err, sym, refl, ap, ◌∙◌, arith, le-ltb, lt-ltb, eq-eqb, ne_eqb}
+use Rattle.laws.specs.declared.refusals.Refusal.TheVariants.{Outside}
+use Rattle.laws.proofs.Choice.{either}
 use Rattle.registers.specs.Files.{file_of, is_file}
 use Rattle.record.specs.Records.{record_of}
-use Rattle.definition.specs.contracts.Answer.{enum}
 use Rattle.definition.specs.Limits.{most_events, most_bytes}
 use Rattle.definition.specs.Logs.{bytes_of}
 use Rattle.definition.specs.Visits.{fixed_record, log_of, refusal_of, outcome, visit_by, visit_of, number_of}
@@ -17,20 +16,39 @@ use Rattle.promises.proofs.Whole.{visit_written, visit_reads}
 use Rattle.watching.specs.Verdicts.{is_length, verdict_of}
 use Rattle.watching.specs.Tallies.{no_tally, tally_of, total}
 use Rattle.watching.specs.Walks.{events_in}
-use Rattle.watching.specs.Traces.{Pair, most_pairs, full, answer_to, logged_by, verdicts_of, is_taking, untaken, taken, step_of}
+use Rattle.watching.specs.Traces.{Pair, most_pairs, full, answer_to, refusals, logged_by, verdicts_of, is_taking, further, taken, step_of}
 use Rattle.watching.specs.declared.verdicts.Variable.{Variable}
+use Rattle.watching.specs.declared.tallies.Tally.{Tally}
 use Rattle.watching.specs.declared.watch.Watch.{Watch}
 use Rattle.watching.proofs.Sums.{tally_most}
 use Rattle.watching.proofs.Walks.{reads_events}
 
--- what a watch that takes a pair has passed
-pub taking_length : (w : Watch) → is_taking w ≡ true → is_length w.variable.length ≡ true
+-- a watch takes a pair, or it does not
+pub takes : (w : Watch) → is_length w.variable.length ≡ true → w.pairs < most_pairs → is_taking w ≡ true
 unfolding is_taking
-taking_length w h = and_left (is_length w.variable.length) (ltb w.pairs most_pairs) h
+takes w h l = rw (h, lt-ltb w.pairs most_pairs l)
 
-pub taking_pairs : (w : Watch) → is_taking w ≡ true → w.pairs < most_pairs
+pub full_takes : (w : Watch) → most_pairs ≤ w.pairs → is_taking w ≡ false
 unfolding is_taking
-taking_pairs w h = ltb-true w.pairs most_pairs (and_right (is_length w.variable.length) (ltb w.pairs most_pairs) h)
+full_takes w h = rw (le-ltb w.pairs most_pairs h) (and_false (is_length w.variable.length))
+  where
+    and_false : (t : Bool) → (t && false) ≡ false
+    and_false true = refl
+    and_false false = refl
+
+pub short_takes : (w : Watch) → is_length w.variable.length ≡ false → is_taking w ≡ false
+unfolding is_taking
+short_takes w h = rw h
+
+pub step_untaken : (w : Watch) (p : Pair) → is_taking w ≡ false → step_of w p ≡ Err Outside
+unfolding step_of
+step_untaken w p h = rw h
+
+pub step_taken :
+    (w : Watch) (p : Pair) → is_length w.variable.length ≡ true → w.pairs < most_pairs
+    → step_of w p ≡ Ok (taken w (answer_to p) (refusals (answer_to p)) (tally_of (verdicts_of w.variable p)))
+unfolding step_of
+step_taken w p h l = rw (takes w h l)
 
 -- an outcome whose number is 0 is that of a call that wrote
 outcome_done : (k o : ℕ) (l p : List ℕ) (s : ℕ) → number_of (outcome k o l p s).0 ≡ 0 → (outcome k o l p s).0 ≡ Done (length l)
@@ -51,25 +69,24 @@ module _ (b f : List ℕ) (a : Answer) (log : List ℕ) (visited : (a, log) ≡ 
       (sym (ap number_of same) ∙ e)
 
   -- an answer that is not Done refuses
-  abbrev NotDone : Type 0
-  NotDone = (tag_of (declared enum) a ≡ 1) ⊎ ((tag_of (declared enum) a ≡ 2) ⊎ (tag_of (declared enum) a ≡ 3))
+  abbrev pub NotDone : Type 0
+  NotDone = (n : ℕ) → a ≡ Done n → ⊥
 
-  refused_number : NotDone → number_of a ≡ 0 → ⊥
-  refused_number t e =
-      let zero : tag_of (declared enum) a ≡ 0 = ap (tag_of (declared enum)) (done_if e) in
-      ⊎_elim (λ x. omega (arith, x, zero)) (⊎_elim (λ x. omega (arith, x, zero)) (λ x. omega (arith, x, zero))) t
+  module _ (w : Watch) (length_is : is_length w.variable.length ≡ true) (within : w.pairs < most_pairs) where
+    pub step_refused : NotDone → Ok (record { visit = a; tally = no_tally; watch = further w 1 no_tally }) ≡ step_of w (b, f)
+    unfolding taken verdicts_of logged_by tally_of
+    step_refused t =
+        sym (step_taken w (b, f) length_is within ∙ rw (answered, ne_eqb (number_of a) 0 (λ e. t _ (done_if e))))
 
-  module _ (w : Watch) (taking : is_taking w ≡ true) where
-    pub step_refused : NotDone → taken w a 1 no_tally ≡ step_of w (b, f)
-    unfolding step_of verdicts_of logged_by tally_of
-    step_refused t = rw (taking, answered, ne_eqb (number_of a) 0 (refused_number t))
+    -- the tally of what was written
+    abbrev of_log : ℕ → Tally
+    of_log n = tally_of (map (verdict_of w.variable) (events_in (take n log)))
 
-    pub step_logged :
-        (n : ℕ) → a ≡ Done n
-        → taken w (Done n) 0 (tally_of (map (verdict_of w.variable) (events_in (take n log)))) ≡ step_of w (b, f)
-    unfolding step_of verdicts_of logged_by
+    pub step_logged : (n : ℕ) → a ≡ Done n → Ok (record { visit = Done n; tally = of_log n; watch = further w 0 (of_log n) }) ≡ step_of w (b, f)
+    unfolding taken verdicts_of logged_by
     step_logged n e =
-        rw (taking, answered, e, reads_events (take n log) (log_of b (file_of f)) (visit_reads (not (is_file f)) b (file_of f) full 0 n log done))
+        rw (reads_events (take n log) (log_of b (file_of f)) (visit_reads (not (is_file f)) b (file_of f) full 0 n log done))
+        (sym (step_taken w (b, f) length_is within ∙ rw (answered, e)))
       where
         done : visit_of b f full 0 ≡ (Done n, log)
         done = sym visited ∙ ap (λ (x : Answer). (x, log)) e
@@ -83,10 +100,6 @@ module _ (b f : List ℕ) (a : Answer) (log : List ℕ) (visited : (a, log) ≡ 
   fits n e =
       let w = visit_written (not (is_file f)) b (file_of f) full 0 n log (sym visited ∙ ap (λ (x : Answer). (x, log)) e) in
       omega (arith, w.count, w.long, short)
-
-pub step_untaken : (w : Watch) (b f : List ℕ) → is_taking w ≡ false → untaken w ≡ step_of w (b, f)
-unfolding step_of
-step_untaken w b f h = rw h
 
 -- a pair has no more write events than a log has events
 logged_few : (p : Pair) → length (logged_by p) ≤ most_events

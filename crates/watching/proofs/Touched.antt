@@ -1,10 +1,17 @@
 -- Which of the variable's bytes a store touches, as bits. Assumes nothing.
-use Rattle.std.proofs.Common.{◌≡◌, ℕ, suc, ◌+◌, ◌-◌, ◌*◌, ◌^◌, ◌<◌, ◌≤◌, Bool, true, cond, leb, arith, leb-true}
+use Rattle.std.proofs.Common.{◌≡◌, ℕ, suc, ◌+◌, ◌-◌, ◌*◌, ◌%◌, ◌^◌, ◌<◌, ◌≤◌, Bool, true, cond, leb, arith, leb-true}
 use native.Mathlib.Nat.{pow-le-pow_right, sub_self, sub-zero}
+use Rattle.laws.specs.Tests.{is_in}
 use Rattle.laws.proofs.Choice.{and_right}
+use Rattle.definition.specs.Addresses.{word}
 use Rattle.sets.specs.Sets.{bits_from}
 use Rattle.sets.proofs.Bits.{bits_below}
-use Rattle.watching.specs.Verdicts.{is_length}
+use Rattle.watching.specs.Verdicts.{is_length, bytes_from}
+use Rattle.watching.specs.declared.verdicts.Variable.{Variable}
+
+-- byte i of the variable is among the n bytes from an address on
+abbrev pub touching : Variable → ℕ → ℕ → ℕ → Bool
+touching v a n i = is_in ((v.address + i) % word) (bytes_from a n)
 
 module _ (p : ℕ → Bool) where
   -- one byte more, below the others

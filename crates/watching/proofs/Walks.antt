@@ -1,9 +1,7 @@
 -- A walk over a log, event by event. Assumes nothing.
-use Rattle.std.proofs.Common.{◌≡◌, ℕ, zero, suc, ◌+◌, ◌-◌, ◌<◌, ◌≤◌, true, false, ◌||◌, eqb, ltb, ◌⊎◌, List, [], ◌∷◌, length, drop, sym, refl, ap, ◌∙◌, subst, ⊎_elim, arith, drop-drop}
+use Rattle.std.proofs.Common.{◌≡◌, ℕ, zero, suc, ◌+◌, ◌-◌, ◌<◌, ◌≤◌, true, false, ◌||◌, eqb, ltb, List, [], ◌∷◌, length, drop, sym, refl, ap, ◌∙◌, subst, arith, drop-drop}
 use native.Mathlib.Nat.{sub-zero}
-use denote.Enum.Declared.{tag_of, declared}
 use Rattle.laws.proofs.Choice.{either}
-use Rattle.definition.specs.contracts.Reading.{enum}
 use Rattle.definition.specs.declared.Event.{Event}
 use Rattle.definition.specs.declared.Reading.{Reading}
 use Rattle.definition.specs.declared.Reading.TheVariants.{Found, Bad, Finished}
@@ -49,12 +47,15 @@ unrolled l at =
     (λ k m o. fuel (length l) (length l - k) l k (omega arith) (omega arith))
 
 -- no event was read
-none_read : (r : Reading) (go : ℕ → List Event) → (tag_of (declared enum) r ≡ 1) ⊎ (tag_of (declared enum) r ≡ 2) → events_by r go ≡ []
-none_read (Found e k) go h = absurd (⊎_elim (λ x. omega arith) (λ x. omega arith) h)
+abbrev pub NoneFound : Reading → Type 0
+NoneFound r = (e : Event) (k : ℕ) → r ≡ Found e k → ⊥
+
+none_read : (r : Reading) (go : ℕ → List Event) → NoneFound r → events_by r go ≡ []
+none_read (Found e k) go h = absurd (h e k refl)
 none_read (Bad k) go h = refl
 none_read Finished go h = refl
 
-pub stopped : (l : List ℕ) (at : ℕ) (r : Reading) → r ≡ read_at l at → (tag_of (declared enum) r ≡ 1) ⊎ (tag_of (declared enum) r ≡ 2) → left l at ≡ []
+pub stopped : (l : List ℕ) (at : ℕ) (r : Reading) → r ≡ read_at l at → NoneFound r → left l at ≡ []
 stopped l at r e h = unrolled l at ∙ rw (← e) (none_read r (λ k. left l k) h)
 
 pub read_on : (l : List ℕ) (at : ℕ) {e : Event} {k : ℕ} → read_at l at ≡ Found e k → left l at ≡ e ∷ left l k

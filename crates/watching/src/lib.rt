@@ -4,7 +4,9 @@
 mod tallies; // tallies.rt: write events counted by verdict
 mod verdicts; // verdicts.rt: how much of the variable one event wrote
 mod watch; // watch.rt: the watch, and its step
+mod watched; // watched.rt: a variable that can be watched
 
 pub use tallies::Tally;
-pub use verdicts::{Naming, Variable, Verdict, is_length, name_event, verdict_on};
-pub use watch::{MOST_PAIRS, Stepped, Watch, WatchAnswer, When};
+pub use verdicts::{Naming, Variable, Verdict, name_event, verdict_on};
+pub use watch::{MOST_PAIRS, Stepped, Watch};
+pub use watched::{Watched, is_length};

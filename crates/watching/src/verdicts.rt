@@ -4,8 +4,9 @@ ghost use Rattle.std.specs.Prelude.{◌≡◌, ℕ, ◌+◌, ◌*◌, ◌%◌, �
 ghost use Rattle.laws.specs.Tests.{is_in};
 ghost use Rattle.definition.specs.Addresses.{word};
 ghost use Rattle.definition.specs.Readings.{is_event, is_size};
-ghost use Rattle.watching.specs.Verdicts.{is_length, bytes_from, store_verdict, verdict_of, store_touched, touched_of, name_at};
+ghost use Rattle.watching.specs.Verdicts.{is_length, bytes_from, store_verdict, verdict_of, verdict_number, store_touched, touched_of, name_at};
 
+use crate::watched::Watched;
 use definition::{Event, Reading};
 use event::read_event;
 
@@ -18,7 +19,7 @@ pub struct Variable {
 
 // What an event did to the variable: it wrote no memory, or it wrote at an address that is not known, or it wrote none, part or whole of
 // the variable's bytes.
-#[derive(Clone, Copy)]
+#[derive(Clone, Copy, PartialEq, Eq)]
 pub enum Verdict {
     NoWrite,
     AddressUnknown,
@@ -27,8 +28,24 @@ pub enum Verdict {
     WholeTouched,
 }
 
+// The number that the verdict call gives it.
+impl From<Verdict> for u8 {
+    ghost from_gives = { λ v n. n ≡ verdict_number v };
+
+    fn from(verdict: Verdict) -> u8 {
+        match verdict {
+            Verdict::NoWrite => 0,
+            Verdict::AddressUnknown => 1,
+            Verdict::NoneTouched => 2,
+            Verdict::PartTouched => 3,
+            Verdict::WholeTouched => 4,
+        }
+    }
+}
+
 // What is said of the event at a place of a log: its verdict, the variable's bytes that it wrote (bit i for byte i) and the place after
 // it; or a refusal number; or that the log has ended.
+// Stays: it has the three cases and the number of definition::Reading; Result<Option<..>, Refusal> would nest them and look the number up.
 #[derive(Clone, Copy)]
 pub enum Naming {
     Named(Verdict, u8, usize),
@@ -36,53 +53,81 @@ pub enum Naming {
     Ended,
 }
 
-// A length that a variable may have.
-pub fn is_length(n: u64) -> bool
-    ensures { result ≡ is_length n }
-{
-    1 <= n && n <= 8
-}
-
-// A store of n bytes at an address.
-fn store_verdict(v: Variable, a: u64, n: u8) -> Verdict
-    requires { (is_length v.length ≡ true) × (is_size n ≡ true) }
-    ensures { result ≡ store_verdict v a n }
-{
-    let size = n as u64;
-    let after = std::num::wrapping_sub_u64(v.address, a);
-    if after < size {
-        if v.length <= size - after {
-            return Verdict::WholeTouched;
+impl Watched {
+    // A store of n bytes at an address.
+    #[tactic(auto, using(crate::proofs::Overlap::stores))]
+    fn store_verdict(self, a: u64, n: u8) -> Verdict
+        requires { is_size n ≡ true }
+        ensures { result ≡ store_verdict self.variable a n }
+    {
+        let v = self.variable;
+        let size = n as u64;
+        let after = v.address.wrapping_sub(a);
+        if after < size {
+            if v.length <= size - after {
+                return Verdict::WholeTouched;
+            }
+            return Verdict::PartTouched;
         }
-        return Verdict::PartTouched;
+        let before = a.wrapping_sub(v.address);
+        if before < v.length {
+            return Verdict::PartTouched;
+        }
+        Verdict::NoneTouched
     }
-    let before = std::num::wrapping_sub_u64(a, v.address);
-    if before < v.length {
-        return Verdict::PartTouched;
+
+    #[tactic(auto, unfolding(crate::specs::Verdicts::verdict_of, definition::specs::Readings::is_event))]
+    pub fn verdict_on(self, e: Event) -> Verdict
+        requires { is_event e ≡ true }
+        ensures { result ≡ verdict_of self.variable e }
+    {
+        match e {
+            Event::MemoryWrite(a, n) => self.store_verdict(a, n),
+            Event::UnknownWrite(_) => Verdict::AddressUnknown,
+            _ => Verdict::NoWrite,
+        }
     }
-    Verdict::NoneTouched
+
+    // The variable's bytes that a store wrote.
+    fn store_touched(self, a: u64, n: u8) -> u8
+        ensures { result ≡ store_touched self.variable a n }
+    {
+        let v = self.variable;
+        let mut bits = 0u8;
+        for i in (0..v.length).rev() {
+            bits = with_low(bits, touches(v, i, a, n));
+        }
+        bits
+    }
+
+    #[tactic(auto, unfolding(crate::specs::Verdicts::touched_of))]
+    fn touched_by(self, e: Event) -> u8
+        ensures { result ≡ touched_of self.variable e }
+    {
+        if let Event::MemoryWrite(a, n) = e {
+            self.store_touched(a, n)
+        } else {
+            0
+        }
+    }
 }
 
+// Stays: what may not change, the clause of this public function; Watched::verdict_on has it in its type.
 pub fn verdict_on(v: Variable, e: Event) -> Verdict
     requires { (is_length v.length ≡ true) × (is_event e ≡ true) }
     ensures { result ≡ verdict_of v e }
 {
-    match e {
-        Event::RegisterRead(_) => Verdict::NoWrite,
-        Event::RegisterWrite(_) => Verdict::NoWrite,
-        Event::MemoryRead(_, _) => Verdict::NoWrite,
-        Event::MemoryWrite(a, n) => store_verdict(v, a, n),
-        Event::UnknownRead(_) => Verdict::NoWrite,
-        Event::UnknownWrite(_) => Verdict::AddressUnknown,
-    }
+    let watched = Watched { variable: v };
+    watched.verdict_on(e)
 }
 
 // Byte i of the variable is among the n bytes from an address on.
+#[tactic(auto, using(crate::proofs::Overlap::touching))]
 fn touches(v: Variable, i: u64, a: u64, n: u8) -> bool
     ensures { result ≡ is_in ((v.address + i) % word) (bytes_from a n) }
 {
-    let byte = std::num::wrapping_add_u64(v.address, i);
-    std::num::wrapping_sub_u64(byte, a) < n as u64
+    let byte = v.address.wrapping_add(i);
+    byte.wrapping_sub(a) < n as u64
 }
 
 // Bits moved up by one place, and a lowest one.
@@ -90,49 +135,25 @@ fn with_low(bits: u8, low: bool) -> u8
     requires { bits < 2 ^ 7 }
     ensures { result ≡ cond {A = ℕ} low 1 0 + 2 * bits }
 {
-    if low { 1 + 2 * bits } else { 2 * bits }
-}
-
-// The variable's bytes that a store wrote, from the last one down.
-fn store_touched(v: Variable, a: u64, n: u8) -> u8
-    requires { is_length v.length ≡ true }
-    ensures { result ≡ store_touched v a n }
-{
-    let mut i = v.length;
-    let mut bits = 0u8;
-    while 0 < i {
-        i = i - 1;
-        bits = with_low(bits, touches(v, i, a, n));
-    }
-    bits
-}
-
-fn touched_by(v: Variable, e: Event) -> u8
-    requires { is_length v.length ≡ true }
-    ensures { result ≡ touched_of v e }
-{
-    match e {
-        Event::RegisterRead(_) => 0,
-        Event::RegisterWrite(_) => 0,
-        Event::MemoryRead(_, _) => 0,
-        Event::MemoryWrite(a, n) => store_touched(v, a, n),
-        Event::UnknownRead(_) => 0,
-        Event::UnknownWrite(_) => 0,
-    }
+    u8::from(low) + 2 * bits
 }
 
 // The event at a place of a log, named against the variable. A length that no variable has is refused 2, before the log is looked at.
+#[tactic(auto, unfolding(crate::specs::Verdicts::name_at))]
 pub fn name_event(v: Variable, log: &[u8], at: usize) -> Naming
     ensures { result ≡ name_at v log.now at }
 {
-    if is_length(v.length) {
-        let r = read_event(log, at);
-        match r {
-            Reading::Found(e, next) => Naming::Named(verdict_on(v, e), touched_by(v, e), next),
-            Reading::Bad(refusal) => Naming::Unnamed(u8::from(refusal)),
-            Reading::Finished => Naming::Ended,
-        }
-    } else {
-        Naming::Unnamed(2)
+    let Ok(watched) = Watched::new(v) else {
+        return Naming::Unnamed(2);
+    };
+    let r = read_event(log, at);
+    match r {
+        Reading::Found(e, next) => Naming::Named(
+            watched.verdict_on(e),
+            watched.touched_by(e),
+            next,
+        ),
+        Reading::Bad(refusal) => Naming::Unnamed(u8::from(refusal)),
+        Reading::Finished => Naming::Ended,
     }
 }
