@@ -1,6 +1,6 @@
 use Rattle.std.proofs.Common.{ℕ, List, [], ◌∷◌}
 use Rattle.laws.proofs.Lending.{first, next, fits, fits_first, whole}
-use Rattle.registers.specs.declared.Value.{Value}
+use Rattle.registers.specs.Values.{Value}
 use Rattle.implicit.specs.declared.Way.{Way}
 use Rattle.implicit.specs.declared.Way.TheVariants.{Read}
 use Rattle.record.specs.Records.{record_of}

@@ -4,7 +4,7 @@ use borrow.Author.Tests.{ltb-true, ltb-false}
 use Rattle.laws.proofs.Keys.{Ruled, past_keys}
 use Rattle.laws.proofs.Lending.{silent}
 use Rattle.laws.proofs.Span.{span}
-use Rattle.registers.specs.declared.Value.{Value}
+use Rattle.registers.specs.Values.{Value}
 use Rattle.implicit.specs.declared.Way.{Way}
 use Rattle.record.specs.Records.{record_of}
 use Rattle.record.specs.declared.Record.{Record}
