@@ -3,12 +3,11 @@
 
 ghost use Rattle.std.specs.Prelude.{◌≡◌};
 ghost use Rattle.access.specs.Exceptions.{info_of};
-ghost use Rattle.access.specs.declared.InfoAnswer.TheVariants.{Done};
 ghost use Rattle.definition.specs.Behaviors.{digest_of, fixed_up, complex, may_protect, exceptions_of, digest_call, privilege_call, exceptions_call};
 
-use access::{Exception, ExceptionInfo, InfoAnswer};
-use definition::PrivilegeAnswer;
-use digest::{BehaviorDigest, DigestAnswer};
+use access::{Exception, ExceptionInfo, PrivilegeLevel};
+use digest::BehaviorDigest;
+use laws::Refusal;
 use record::Record;
 
 mod memory;
@@ -80,42 +79,33 @@ fn may_protect(x: Record) -> bool
     d.privilege_level().to_bits() != 0
 }
 
-// The exceptions that a record, after fix-ups, may raise.
-pub fn exceptions_of(x: Record) -> InfoAnswer
-    ensures { result ≡ Done (info_of (exceptions_of x)) }
+// The exceptions that a record, after fix-ups, may raise. Neither vector is refused.
+#[tactic(auto, using(crate::proofs::Answers::two_vectors), unfolding(definition::specs::Behaviors::exceptions_of, access::specs::Exceptions::set_of))]
+pub fn exceptions_of(x: Record) -> ExceptionInfo
+    ensures { result ≡ info_of (exceptions_of x) }
 {
-    ExceptionInfo::empty()
-        .set(Exception::GP, may_protect(x))
-        .with(Exception::PF, memory::may_fault(x))
+    let protected = ExceptionInfo::empty().set(Exception::GP, may_protect(x)).unwrap();
+    protected.set(Exception::PF, memory::may_fault(x)).unwrap()
 }
 
-// The calls over a record's bytes. Each gives refusal 1 or 2.
-pub fn digest_answer(b: &[u8]) -> DigestAnswer
+// The calls over a record's bytes: each hands on why they are no record.
+#[tactic(auto, unfolding(definition::specs::Behaviors::digest_call))]
+pub fn digest_answer(b: &[u8]) -> Result<BehaviorDigest, Refusal>
     ensures { result ≡ digest_call b.now }
 {
-    let answer = Record::from_bytes(b);
-    if answer.number != 0 {
-        return DigestAnswer::Refused(answer.number);
-    }
-    DigestAnswer::Done(digest_of(answer.read))
+    Ok(digest_of(Record::from_bytes(b)?))
 }
 
-pub fn privilege_answer(b: &[u8]) -> PrivilegeAnswer
+#[tactic(auto, unfolding(definition::specs::Behaviors::privilege_call))]
+pub fn privilege_answer(b: &[u8]) -> Result<PrivilegeLevel, Refusal>
     ensures { result ≡ privilege_call b.now }
 {
-    let answer = Record::from_bytes(b);
-    if answer.number != 0 {
-        return PrivilegeAnswer::Refused(answer.number);
-    }
-    PrivilegeAnswer::Done(digest_of(answer.read).privilege_level())
+    Ok(digest_of(Record::from_bytes(b)?).privilege_level())
 }
 
-pub fn exceptions_answer(b: &[u8]) -> InfoAnswer
+#[tactic(auto, unfolding(definition::specs::Behaviors::exceptions_call))]
+pub fn exceptions_answer(b: &[u8]) -> Result<ExceptionInfo, Refusal>
     ensures { result ≡ exceptions_call b.now }
 {
-    let answer = Record::from_bytes(b);
-    if answer.number != 0 {
-        return InfoAnswer::Refused(answer.number);
-    }
-    exceptions_of(fixed_up(answer.read))
+    Ok(exceptions_of(fixed_up(Record::from_bytes(b)?)))
 }

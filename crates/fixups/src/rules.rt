@@ -7,7 +7,7 @@ ghost use Rattle.definition.specs.Behaviors.{operand_width, by_width, fix_up};
 ghost use Rattle.fixups.specs.Fields.{fields_of};
 
 use access::Access;
-use digest::{BehaviorDigest, DigestAnswer};
+use digest::BehaviorDigest;
 use record::Record;
 use registers::RegSpec;
 
@@ -22,14 +22,12 @@ const DIV_LISTS: u16 = 5;
 const CMPXCHG_LISTS: u16 = 9;
 
 // The setters of a digest, where they do not refuse.
+#[tactic(auto, using(digest::proofs::Laws::list_taken))]
 fn with_list(d: BehaviorDigest, list: u16) -> BehaviorDigest
     requires { list ≤ 28 }
     ensures { result ≡ with_list list d }
 {
-    let DigestAnswer::Done(changed) = d.set_implicit_ops(list) else {
-        return d;
-    };
-    changed
+    d.set_implicit_ops(list).unwrap()
 }
 
 fn one_list_of(d: BehaviorDigest, test: bool, yes: u16, no: u16) -> BehaviorDigest
@@ -43,14 +41,12 @@ fn one_list_of(d: BehaviorDigest, test: bool, yes: u16, no: u16) -> BehaviorDige
     }
 }
 
+#[tactic(auto, using(digest::proofs::Laws::operand_taken))]
 fn with_access(d: BehaviorDigest, operand: u8, access: Access) -> BehaviorDigest
     requires { operand ≤ 3 }
     ensures { result ≡ with_access operand (access_number access) d }
 {
-    let DigestAnswer::Done(changed) = d.set_operand(operand, access) else {
-        return d;
-    };
-    changed
+    d.set_operand(operand, access).unwrap()
 }
 
 #[tactic(auto, unfolding(definition::specs::Behaviors::operand_width))]
