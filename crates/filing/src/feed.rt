@@ -142,6 +142,7 @@ fn push(f: Feed, words: &mut [u64; WORDS], carry: &mut [u8], b: u8) -> Feed
 }
 
 // A block.
+// Stays: a public function, whose caller lends the words and the buffer apart; its clause, `fed`, is over the three.
 pub fn feed_block(f: Feed, words: &mut [u64; WORDS], carry: &mut [u8], block: &[u8]) -> Feed
     requires { Ready f carry.old }
     ensures { (state_of result words.new carry.new ≡ fed (state_of f words.old carry.old) block.now) × Ready result carry.new }
