@@ -74,6 +74,7 @@ grown part have w p =
     (record { feed = Reading part (have + 1); words = w; pending = p })
     (emptied (completed part w p))
 
+-- after a refusal nothing changes
 abbrev pub pushed_on : Feed → List ℕ → List ℕ → ℕ → State
 pushed_on (Reading part have) w p b =
     cond (is_full part have w) (emptied (Refused 10, w)) (grown part have w (p ++ (b ∷ [])))

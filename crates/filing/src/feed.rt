@@ -48,6 +48,7 @@ fn size_of(part: Part) -> usize
     }
 }
 
+// A refusal as `end_number` answers it.
 fn number_of(refusal: Refusal) -> u64
     ensures { result ≡ refusal_number refusal }
 {
@@ -73,7 +74,7 @@ fn take_header(words: &mut [u64; WORDS], item: &[u8]) -> Feed
     ensures { (result, words.new) ≡ headed words.old item.now }
 {
     let address = laws::u64_at(item, 0);
-    waiting(totals::new_sheet(words, address, item[8] as u64))
+    waiting(totals::new_sheet(words, address, u64::from(item[8])))
 }
 
 #[tactic(auto, unfolding(crate::specs::Feeds::logged))]
@@ -141,6 +142,7 @@ fn push(f: Feed, words: &mut [u64; WORDS], carry: &mut [u8], b: u8) -> Feed
 }
 
 // A block.
+// Stays: a public function, whose caller lends the words and the buffer apart; its clause, `fed`, is over the three.
 pub fn feed_block(f: Feed, words: &mut [u64; WORDS], carry: &mut [u8], block: &[u8]) -> Feed
     requires { Ready f carry.old }
     ensures { (state_of result words.new carry.new ≡ fed (state_of f words.old carry.old) block.now) × Ready result carry.new }

@@ -10,6 +10,7 @@ use crate::lines::{put_around, put_count, put_pair};
 use totals::{BANK_COUNT, IN, KNOWN, LOGS, OUT, PART, READS, SIZE_COUNT, SIZES, WORDS, WRITES};
 
 // The counts of numbers from a first one on; that of number k stands in the word base + k.
+// Stays: a struct of letter, base, first and count would be made by one function and taken apart by one, and is no plainer.
 fn put_counts(
     out: &mut [u8],
     letter: &[u8],
