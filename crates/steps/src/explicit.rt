@@ -126,7 +126,7 @@ fn put_part(log: &mut [u8], b: &[u8], spec: u8, way: Way, at: Sources, added: Va
 }
 
 // Even parts read, odd parts write.
-#[tactic(auto, using(crate::proofs::Ways::even_reads, crate::proofs::Ways::odd_writes))]
+#[tactic(auto, unfolding(crate::specs::Parts::way_of))]
 fn way_of(part: u8) -> Way
     ensures { result ≡ way_of part }
 {

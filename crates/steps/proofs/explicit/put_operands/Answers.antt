@@ -30,7 +30,7 @@ put_based-k-requires c =
     let p = t l.rest c.loop-rest-test.true l.invariant.0 in (
       c.requires.0.0,
       rw (c.spec.ensures, c.way_of.ensures, lent_part a.x (record_of a.b.now) a.x.digest c.requires.0.1 (way_of p) a.at (spec_at a.x (p / 2)))
-      (fits (rw (next_bit a.x a.at l.rest c.loop-rest-test.true l.invariant.0) at l.invariant.1)),
+          (fits (rw (next_bit a.x a.at l.rest c.loop-rest-test.true l.invariant.0) at l.invariant.1)),
     )
 
 pub overflow_sub-rest : goal.overflow_sub-rest
@@ -43,8 +43,7 @@ loop-rest-preserved c =
     let a = c.args in
     let l = c.loop-rest in
     let p = t l.rest c.loop-rest-test.true l.invariant.0 in
-    rw (bit l.rest c.loop-rest-test.true l.invariant.0)
-    (
+    rw (bit l.rest c.loop-rest-test.true l.invariant.0) (
       omega (arith, l.invariant.0),
       next (rw (next_bit a.x a.at l.rest c.loop-rest-test.true l.invariant.0) at l.invariant.1) (rw (c.spec.ensures, c.way_of.ensures, lent_part a.x (record_of a.b.now) a.x.digest c.requires.0.1 (way_of p) a.at (spec_at a.x (p / 2))) at c.put_based-k.ensures),
     )
