@@ -92,6 +92,7 @@ pub fn put_list(log: &mut [u8], x: Record, at: Value) -> usize
     ensures { Logged event_bytes (list_events x at x.digest.extra) log.old log.new result }
 {
     let list = x.digest.extra;
+    // Stays: lists by their numbers in document 01, which a digest holds; an enum of them would be made by a match like this one.
     match list {
         // MUL
         1 => put_moves(log, &[AL], &[AX]),

@@ -24,6 +24,8 @@ pub fn is_stopped(b: &[u8], way: Way) -> bool
     }
 }
 
+// Stays: b, way and added one by one. docs/ARCHITECTURE.md names these calls, so no type takes over what they require of b.
+
 // The access itself: the sum of every explicit operand comes here last, is cut here, and moved by the base of its segment.
 #[tactic(auto, unfolding(crate::specs::Touches::access_events, laws::specs::Lists::each))]
 pub fn put_access(log: &mut [u8], b: &[u8], way: Way, at: Value, added: Value) -> usize

@@ -14,6 +14,7 @@ use operand::{apply_x86_zext, segment_register};
 use registers::RegSpec;
 
 // Mask 0 is never logged.
+// Stays: 0 is no mask in document 01 and in the record's byte, and `mask_registers` says so; so for segments, below.
 #[tactic(auto, unfolding(definition::specs::Steps::mask_registers, event::specs::Moves::moved, laws::specs::Lists::each))]
 pub fn put_mask(log: &mut [u8], mask: u8) -> usize
     requires { size event_bytes (moved Read (mask_registers mask)) ≤ length log.old }
@@ -65,6 +66,7 @@ fn put_masked_read(log: &mut [u8], y: RegSpec, mask: u8) -> usize
 }
 
 // Written, it comes after it, and as it is.
+// Stays: the two differ in their order, which no constant or type decides.
 fn put_masked_write(log: &mut [u8], y: RegSpec, mask: u8) -> usize
     requires { size event_bytes (masked_events Write y mask) ≤ length log.old }
     ensures { Logged event_bytes (masked_events Write y mask) log.old log.new result }

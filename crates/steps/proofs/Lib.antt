@@ -3,4 +3,3 @@ pub mod Operands
 pub mod Logs
 pub mod Lent
 pub mod Bits
-pub mod Ways

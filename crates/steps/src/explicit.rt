@@ -25,8 +25,8 @@ fn put_part(log: &mut [u8], b: &[u8], spec: u8, way: Way, at: Sources, added: Va
     let at_index = at.index;
     let at_rdi = at.rdi;
     let at_rsi = at.rsi;
-    // Stays: an arm for each spec, so that one jump finds it. With specs that differ only in their mask in one arm, as 18 | 19, a visit
-    // took 598, 621 and 634 instructions in place of 583, 606 and 609 (mixed, everyday, indexed).
+    // Stays: specs by their numbers in document 01, as the record's byte has them; an enum of them would be made by a match like this.
+    // Stays: an arm for each spec. With 18 | 19 in one, and so on, a visit took 598, 621 and 634 instructions in place of 583, 606 and 609.
     match spec {
         1 => put_plain(log, way, record::reg_in(b, 0)),
         2 => put_plain(log, way, base),
@@ -126,7 +126,7 @@ fn put_part(log: &mut [u8], b: &[u8], spec: u8, way: Way, at: Sources, added: Va
 }
 
 // Even parts read, odd parts write.
-#[tactic(auto, using(crate::proofs::Ways::even_reads, crate::proofs::Ways::odd_writes))]
+#[tactic(auto, unfolding(crate::specs::Parts::way_of))]
 fn way_of(part: u8) -> Way
     ensures { result ≡ way_of part }
 {
@@ -150,6 +150,7 @@ fn segment_of(b: &[u8], spec: u8, way: Way) -> u8
 }
 
 // No segment adds nothing.
+// Stays: 0 is no segment in document 01 and in the record's byte, and `part_segment` says so.
 fn added_by(segment: u8, base: Value) -> Value
     ensures { result ≡ added_by segment base }
 {
@@ -157,6 +158,7 @@ fn added_by(segment: u8, base: Value) -> Value
 }
 
 // The base of its segment is read before all else of a part.
+// Stays: b, way and at go along one by one, as the calls of moves take them.
 fn put_based(log: &mut [u8], b: &[u8], spec: u8, way: Way, at: Sources) -> usize
     requires { (everyday_bytes ≤ length b.now) × (size event_bytes (based_events (record_of b.now) way at spec) ≤ length log.old) }
     ensures { Logged event_bytes (based_events (record_of b.now) way at spec) log.old log.new result }
@@ -177,6 +179,7 @@ fn part_count(x: Record) -> u8
 }
 
 // The accesses of the operands below count, a bit for each part: 2 i is the read part of operand i, and 2 i + 1 its write part.
+#[tactic(auto, using(crate::proofs::Bits::shifted, crate::proofs::Bits::bits_below, crate::proofs::Bits::some_shift), unfolding(crate::specs::Parts::part_bits))]
 fn parts_of(x: Record) -> u32
     ensures { (result ≡ part_bits x) × (result < 256) }
 {
@@ -192,6 +195,7 @@ pub fn put_operands(log: &mut [u8], b: &[u8], x: Record, at: Sources) -> usize
 {
     let mut n = 0;
     let mut rest = parts_of(x);
+    // Stays: no index is counted. An iterator over the set bits would be this loop in a type of its own.
     while rest != 0 {
         let part = u32::trailing_zeros(rest) as u8;
         let k = put_based(&mut log[n..], b, x.spec(part / 2), way_of(part), at);
