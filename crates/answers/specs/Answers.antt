@@ -1,18 +1,19 @@
 -- What the calls answer: which bits of the number hold what. Bits not named are 0.
-use Rattle.std.specs.Prelude.{ℕ, ◌+◌, ◌-◌, ◌*◌, ◌^◌, List, cond}
+use Rattle.std.specs.Prelude.{ℕ, ◌+◌, ◌-◌, ◌*◌, ◌^◌, List, cond, Result}
 use Rattle.access.specs.Exceptions.{info_number, info_vectors}
 use Rattle.access.specs.Privileges.{level_number}
-use Rattle.access.specs.declared.InfoAnswer.{InfoAnswer}
 use Rattle.digest.specs.Digests.{digest_number, digest_in}
-use Rattle.digest.specs.declared.DigestAnswer.{DigestAnswer}
 use Rattle.difference.specs.declared.logs.Parted.{Parted}
 use Rattle.definition.specs.Behaviors.{privilege_number, privilege_in}
 use Rattle.definition.specs.Visits.{number_of, opcode_of, count_of}
 use Rattle.definition.specs.Readings.{reading_number}
 use Rattle.definition.specs.declared.Answer.{Answer}
-use Rattle.definition.specs.declared.PrivilegeAnswer.{PrivilegeAnswer}
 use Rattle.definition.specs.declared.Reading.{Reading}
 use Rattle.definition.specs.declared.Reading.TheVariants.{Found, Bad, Finished}
+use Rattle.laws.specs.declared.refusals.Refusal.{Refusal}
+use Rattle.digest.specs.declared.BehaviorDigest.{BehaviorDigest}
+use Rattle.access.specs.declared.PrivilegeLevel.{PrivilegeLevel}
+use Rattle.access.specs.declared.ExceptionInfo.{ExceptionInfo}
 
 -- a number that starts at a bit
 abbrev pub at : ℕ → ℕ → ℕ
@@ -26,15 +27,15 @@ abbrev pub packed : Answer × List ℕ → ℕ × List ℕ
 packed o = (answer_bits o.0, o.1)
 
 -- digest: 0-7 number, 8-15 behavior, 16-23 operand_access, 32-47 list
-abbrev pub digest_bits : DigestAnswer → ℕ
+abbrev pub digest_bits : Result BehaviorDigest Refusal → ℕ
 digest_bits a = digest_number a + at 8 (digest_in a).behavior + at 16 (digest_in a).operands + at 32 (digest_in a).extra
 
 -- privilege: 0-7 number, 8-15 level
-abbrev pub privilege_bits : PrivilegeAnswer → ℕ
+abbrev pub privilege_bits : Result PrivilegeLevel Refusal → ℕ
 privilege_bits a = privilege_number a + at 8 (level_number (privilege_in a))
 
 -- exceptions: 0-7 number, 32-63 exception bits
-abbrev pub exception_bits : InfoAnswer → ℕ
+abbrev pub exception_bits : Result ExceptionInfo Refusal → ℕ
 exception_bits a = info_number a + at 32 (info_vectors a)
 
 -- event: 0-7 number (255 finished), 32-63 the event's length in bytes

@@ -3,10 +3,11 @@ ghost use Rattle.std.specs.Prelude.{◌≡◌, ◌^◌, ◌<◌};
 ghost use Rattle.definition.specs.Visits.{count_of};
 ghost use Rattle.answers.specs.Answers.{answer_bits, digest_bits, privilege_bits, exception_bits, difference_bits};
 
-use access::InfoAnswer;
-use definition::{Answer, PrivilegeAnswer};
+use access::{ExceptionInfo, PrivilegeLevel};
+use definition::Answer;
 use difference::Parted;
-use digest::DigestAnswer;
+use digest::BehaviorDigest;
+use laws::Refusal;
 
 pub fn answer_bits(a: Answer) -> u64
     requires { count_of a < 2 ^ 32 }
@@ -20,34 +21,34 @@ pub fn answer_bits(a: Answer) -> u64
     }
 }
 
-pub fn digest_bits(a: DigestAnswer) -> u64
+pub fn digest_bits(a: Result<BehaviorDigest, Refusal>) -> u64
     ensures { result ≡ digest_bits a }
 {
     match a {
-        DigestAnswer::Done(d) => {
+        Ok(d) => {
             (d.behavior as u64) * 0x100
                 + (d.operands as u64) * 0x1_0000
                 + (d.extra as u64) * 0x1_0000_0000
         }
-        DigestAnswer::Refused(number) => number as u64,
+        Err(refusal) => u8::from(refusal) as u64,
     }
 }
 
-pub fn privilege_bits(a: PrivilegeAnswer) -> u64
+pub fn privilege_bits(a: Result<PrivilegeLevel, Refusal>) -> u64
     ensures { result ≡ privilege_bits a }
 {
     match a {
-        PrivilegeAnswer::Done(level) => (level.to_bits() as u64) * 0x100,
-        PrivilegeAnswer::Refused(number) => number as u64,
+        Ok(level) => (level.to_bits() as u64) * 0x100,
+        Err(refusal) => u8::from(refusal) as u64,
     }
 }
 
-pub fn exception_bits(a: InfoAnswer) -> u64
+pub fn exception_bits(a: Result<ExceptionInfo, Refusal>) -> u64
     ensures { result ≡ exception_bits a }
 {
     match a {
-        InfoAnswer::Done(info) => (info.vectors as u64) * 0x1_0000_0000,
-        InfoAnswer::Refused(number) => number as u64,
+        Ok(info) => (info.vectors as u64) * 0x1_0000_0000,
+        Err(refusal) => u8::from(refusal) as u64,
     }
 }
 

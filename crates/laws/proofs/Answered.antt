@@ -23,3 +23,15 @@ passed {A} n x {y} {r} p q = by (eqb n 0) refl p
 
 pub not_refused : {A : Type 0} (n : ℕ) (x : A) → n ≡ 0 → answered_by n x ≡ Ok x
 not_refused n x e = rw e
+
+-- what is answered is what there was to answer
+pub answered_is : {A : Type 0} (n : ℕ) (x : A) {y : A} {r : Result A Refusal} → r ≡ answered_by n x → r ≡ Ok y → y ≡ x
+answered_is {A} n x {y} {r} p q = by (eqb n 0) p
+  where
+    by : (t : Bool) → r ≡ cond t (Ok x) (Err (refusal_named n)) → y ≡ x
+    by true h = cc (h, q)
+    by false h = absurd (cc (h, q))
+
+-- a refusal is of another number than 0
+pub refused_not : {A : Type 0} (n : ℕ) (x : A) {e : Refusal} {r : Result A Refusal} → r ≡ answered_by n x → r ≡ Err e → n ≡ 0 → ⊥
+refused_not n x {e} {r} p q z = let h : r ≡ Ok x = rw z at p in absurd (cc (h, q))

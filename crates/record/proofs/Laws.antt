@@ -1,5 +1,5 @@
 -- What a record that is not refused keeps to, for those who call. Assumes nothing.
-use Rattle.std.specs.Prelude.{Ok, Err}
+use Rattle.std.specs.Prelude.{Ok, Err, Result}
 use Prim.Native.Nat.{ℕ, zero, suc, ◌+◌, ◌*◌, ◌%◌, ◌<◌, ◌≤◌}
 use native.Mathlib.Omega.{arith}
 use mathlib.Core.Path.{◌≡◌, refl, sym, ap, ◌∙◌}
@@ -21,7 +21,8 @@ use Rattle.everyday.proofs.Laws.{held}
 use Rattle.record.specs.Records.{record_kind, segment_kind, everyday_kind, everyday_bytes, record_bytes, segment_bytes, record_length, is_record, RecordLong, brought_digest, record_digest, record_of, outside, lacks_digest, record_tests, record_refusal, record_answer, spec_at, reg_at}
 use Rattle.record.specs.declared.Record.{Record}
 use Rattle.record.specs.Halves.{plain_record, completed_record}
-use Rattle.laws.specs.Refusals.{answered_by, refused_by}
+use Rattle.laws.specs.Refusals.{answered_by, refused_by, refusal_number}
+use Rattle.laws.specs.declared.refusals.Refusal.{Refusal}
 use Rattle.laws.proofs.Answered.{not_refused}
 use Rattle.laws.specs.declared.refusals.Refusal.TheVariants.{Malformed, Outside, Unlisted}
 
@@ -213,6 +214,9 @@ refused_number b x = by (not (is_record b)) (outside (record_of b)) (lacks_diges
     by false true v = refl
     by false false true = refl
     by false false false = refl
+
+pub number_read : {A : Type 0} (b : List ℕ) (x : A) {e : Refusal} {r : Result A Refusal} → r ≡ answered_by (record_refusal b) x → r ≡ Err e → refusal_number e ≡ record_refusal b
+number_read b x {e} {r} p q = ap refused_by (sym q ∙ p) ∙ refused_number b x
 
 pub answer_number : (b : List ℕ) → refused_by (record_answer b) ≡ record_refusal b
 answer_number b = refused_number b (record_of b)

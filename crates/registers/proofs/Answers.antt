@@ -1,8 +1,8 @@
 -- What the answer to a file's bytes says, for those who call. Assumes nothing.
-use Rattle.std.specs.Prelude.{Ok, Err}
+use Rattle.std.specs.Prelude.{Ok, Err, Result}
 use Prim.Native.Nat.{ℕ, ◌+◌, ◌^◌, ◌<◌, ◌≤◌}
 use native.Mathlib.Omega.{arith}
-use mathlib.Core.Path.{◌≡◌, refl, sym, ◌∙◌}
+use mathlib.Core.Path.{◌≡◌, refl, sym, ap, ◌∙◌}
 use mathlib.Core.Logic.{◌⊎◌, inl, inr}
 use mathlib.Core.List.{List}
 use mathlib.Core.Bool.{Bool, true, false, cond, ◌&&◌}
@@ -14,7 +14,8 @@ use Rattle.laws.proofs.Choice.{and_left, and_right}
 use Rattle.registers.specs.Files.{file_kind, based_kind, file_bytes, based_bytes, file_values, file_length, file_of, is_file, FileLong, file_answer}
 use Rattle.registers.specs.Told.{file_refusal}
 use Rattle.registers.specs.declared.RegisterFile.{RegisterFile}
-use Rattle.laws.specs.Refusals.{answered_by, refused_by}
+use Rattle.laws.specs.Refusals.{answered_by, refused_by, refusal_number}
+use Rattle.laws.specs.declared.refusals.Refusal.{Refusal}
 use Rattle.laws.specs.declared.refusals.Refusal.TheVariants.{BadFile}
 
 -- the number is the refusal
@@ -106,3 +107,11 @@ module _ (b : List ℕ) where
       by : (t : Bool) → cond t (Ok (file_of b)) (Err BadFile) ≡ answered_by (cond t 0 3) (file_of b)
       by true = refl
       by false = refl
+
+  pub number_filed : {e : Refusal} {r : Result (Unit {0}) Refusal} → r ≡ answered_by (file_refusal b) tt → r ≡ Err e → refusal_number e ≡ file_refusal b
+  unfolding file_refusal
+  number_filed {e} {r} p q = by (is_file b) (sym q ∙ p)
+    where
+      by : (t : Bool) → Err e ≡ answered_by (cond t 0 3) (tt {0}) → refusal_number e ≡ cond t 0 3
+      by true h = absurd (cc h)
+      by false h = ap refused_by h
