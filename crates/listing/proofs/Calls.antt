@@ -8,9 +8,7 @@ use Rattle.laws.specs.Lending.{size, Logged, lacks_room}
 use Rattle.laws.proofs.Choice.{first_here, first_later}
 use Rattle.laws.proofs.Lending.{part, back}
 use Rattle.laws.proofs.Room.{has_left}
-use Rattle.record.specs.Records.{record_of, record_answer}
-use Rattle.record.specs.declared.RecordAnswer.{RecordAnswer}
-use Rattle.record.proofs.Laws.{number_is, read_is}
+use Rattle.record.specs.Records.{record_of, record_refusal}
 use Rattle.record.specs.declared.Record.{Record}
 use Rattle.definition.specs.Behaviors.{fixed_up, complex}
 use Rattle.definition.specs.Visits.{fixed_record, outcome}
@@ -36,29 +34,26 @@ module _ (x : Record) (buffer : List ℕ) (start : ℕ) where
   fitting h l = sym (written x.opcode buffer start (enough (length (listing_of x)) buffer start h) l)
 
 -- of bytes: refused 1 or 2, refused 4, or as the record that they are
-module _ (b buffer : List ℕ) (start : ℕ) {r : RecordAnswer} (e : r ≡ record_answer b) where
-  fixed : {x : Record} → r.number ≡ 0 → x ≡ fixed_up r.read → x ≡ fixed_record b
-  fixed z f = f ∙ ap fixed_up (read_is b e z)
+module _ (b buffer : List ℕ) (start : ℕ) where
+  fixed : {x y : Record} → y ≡ record_of b → x ≡ fixed_up y → x ≡ fixed_record b
+  fixed p f = f ∙ ap fixed_up p
 
-  pub turned_down : (r.number ≡ 0 → ⊥) → (Refused r.number, buffer) ≡ listing_call b buffer start
+  pub turned_down : {n : ℕ} → n ≡ record_refusal b → (record_refusal b ≡ 0 → ⊥) → (Refused n, buffer) ≡ listing_call b buffer start
   unfolding listing_call listing_refusal
-  turned_down ne =
-      sym
-      (refused (record_of b).opcode (listing_of (fixed_record b)) buffer start
-      (by_record b _ (λ z. ne (number_is b e ∙ z)) ∙ sym (number_is b e))
-      (rw (number_is b e) (bare_record b (λ z. ne (number_is b e ∙ z)))))
+  turned_down e ne =
+      rw e (sym (refused (record_of b).opcode (listing_of (fixed_record b)) buffer start (by_record b _ ne) (bare_record b ne)))
 
-  pub complex_one_lem : {x : Record} → r.number ≡ 0 → x ≡ fixed_up r.read → complex x ≡ true → (Complex x.opcode, buffer) ≡ listing_call b buffer start
+  pub complex_one_lem : {x y : Record} → record_refusal b ≡ 0 → y ≡ record_of b → x ≡ fixed_up y → complex x ≡ true → (Complex x.opcode, buffer) ≡ listing_call b buffer start
   unfolding listing_call listing_refusal fixed_up
-  complex_one_lem z f h =
-      rw (fixed z f)
+  complex_one_lem z p f h =
+      rw (fixed p f)
       (sym
       (refused_complex (record_of b).opcode (listing_of (fixed_record b)) buffer start
-      (past_record b _ (sym (number_is b e) ∙ z) ∙ first_here (complex (fixed_record b)) 4 _ (rw (fixed z f) at h))))
+      (past_record b _ z ∙ first_here (complex (fixed_record b)) 4 _ (rw (fixed p f) at h))))
 
-  pub by_room_lem : {x : Record} → r.number ≡ 0 → x ≡ fixed_up r.read → complex x ≡ false → listed_from x buffer start ≡ listing_call b buffer start
+  pub by_room_lem : {x y : Record} → record_refusal b ≡ 0 → y ≡ record_of b → x ≡ fixed_up y → complex x ≡ false → listed_from x buffer start ≡ listing_call b buffer start
   unfolding listing_call listing_refusal listed_from fixed_up
-  by_room_lem z f h =
-      rw (fixed z f)
+  by_room_lem z p f h =
+      rw (fixed p f)
       (ap (λ (k : ℕ). outcome k (record_of b).opcode (listing_of (fixed_record b)) buffer start)
-      (sym (past_record b _ (sym (number_is b e) ∙ z) ∙ first_later (complex (fixed_record b)) 4 _ (rw (fixed z f) at h))))
+      (sym (past_record b _ z ∙ first_later (complex (fixed_record b)) 4 _ (rw (fixed p f) at h))))

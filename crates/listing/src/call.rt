@@ -112,11 +112,11 @@ fn list_record(x: Record, out: &mut [u8], start: usize) -> Answer
 pub fn list_operands(b: &[u8], out: &mut [u8], start: usize) -> Answer
     ensures { (result, out.new) ≡ listing_call b.now out.old start }
 {
-    let answer = Record::from_bytes(b);
-    if answer.number != 0 {
-        return Answer::Refused(answer.number);
-    }
-    let x = fixups::fixed_up(answer.read);
+    let read = match Record::from_bytes(b) {
+        Ok(read) => read,
+        Err(refusal) => return Answer::Refused(u8::from(refusal)),
+    };
+    let x = fixups::fixed_up(read);
     if fixups::is_complex(x) {
         return Answer::Complex(x.opcode);
     }

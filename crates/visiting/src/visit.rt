@@ -87,13 +87,11 @@ fn visit_tight(b: &[u8], file: &[u8], log: &mut [u8], start: usize) -> Answer
 pub fn visit_accesses(b: &[u8], file: &[u8], log: &mut [u8], start: usize) -> Answer
     ensures { (result, log.new) ≡ visit_of b.now file.now log.old start }
 {
-    let unread = record::refusal_of(b);
-    if unread != 0 {
-        return Answer::Refused(unread);
+    if let Err(refusal) = record::check(b) {
+        return Answer::Refused(u8::from(refusal));
     }
-    let unfiled = registers::refusal_of(file);
-    if unfiled != 0 {
-        return Answer::Refused(unfiled);
+    if let Err(refusal) = registers::check(file) {
+        return Answer::Refused(u8::from(refusal));
     }
     if laws::lacks_room(MOST_BYTES, start, log.len()) {
         return visit_tight(b, file, log, start);
