@@ -31,6 +31,7 @@ pub(crate) fn logged_by(a: Answer) -> usize
 }
 
 // The opcode is little-endian.
+// Stays: the four bytes are the C interface's, numbers as they lie in the buffer.
 fn put_four(out: &mut [u8], number: u8, count: u8, opcode: u16)
     requires { answer_bytes ≤ length out.old }
     ensures { out.new ≡ (number ∷ count ∷ little 2 opcode) ++ drop answer_bytes out.old }

@@ -12,6 +12,7 @@ use registers::{FILE_BYTES, FILE_KIND};
 use visiting::{MOST_BYTES, number_of, visit_accesses};
 
 // The implicit lists that touch memory: by edi or rdi, on the stack, and XLAT by rbx and al.
+// Stays: lists are numbers of document 01, and the arms read like its table.
 fn with_list(set: u32, list: u16) -> u32
     ensures { result ≡ joined set (list_needs list) }
 {

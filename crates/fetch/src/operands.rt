@@ -14,9 +14,11 @@ use operand::takes_base;
 use record::Record;
 use registers::names::{EDI, ESI, RDI, RSI};
 
+// Stays: an opcode is a number of document 01, of which this code names one alone.
 const LEA: u16 = 28;
 
 // The base of a memory spec: `regs[1]`, or the register that the spec names.
+// Stays: specs are numbers of document 01, and the arms read like its table.
 fn base_of(x: Record, spec: u8) -> Term
     ensures { result ≡ base_of x (shape_base (shape_of spec)) }
 {

@@ -6,6 +6,7 @@ ghost use Rattle.laws.specs.Words.{bit};
 ghost use Rattle.access.specs.Exceptions.{with_bit};
 
 // Whether a number is in a set.
+#[tactic(auto, unfolding(laws::specs::Words::bit))]
 pub fn has(set: u32, k: u8) -> bool
     requires { k < 32 }
     ensures { result ≡ bit set k }
