@@ -57,19 +57,17 @@ fn flags_next(x: Record) -> Option<(Item, AccessIter)>
 }
 
 // Entry i of the implicit list, or past its end the first explicit operand. A string slot lists as memory at rdi, whatever its own register.
-#[tactic(auto, using(crate::proofs::Walking::operand_below, crate::proofs::Walking::slot_below, crate::proofs::Walking::entry_over))]
+#[tactic(auto, using(crate::proofs::Walking::entry_below, crate::proofs::Walking::entry_over))]
 fn implicit_next(x: Record, i: u8) -> Option<(Item, AccessIter)>
     ensures { result ≡ implicit_next x i }
 {
-    let digest = x.digest;
-    let entry = implicit::implicit_entry(digest.extra, i);
-    match entry {
-        Entry::Operand(o, way) => implicit_found(o, way, i),
-        Entry::Slot(_, way) => {
+    match implicit::implicit_entry(x.digest.extra, i) {
+        Some(Entry::Operand(o, way)) => implicit_found(o, way, i),
+        Some(Entry::Slot(_, way)) => {
             let rdi = RegSpec { bank: 0, number: 7 };
             implicit_found(ImplicitOperand::MemDeref(rdi), way, i)
         }
-        Entry::End => explicit_next(x, 0),
+        None => explicit_next(x, 0),
     }
 }
 
