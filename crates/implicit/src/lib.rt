@@ -5,8 +5,10 @@ ghost use Rattle.std.specs.Prelude.{◌≡◌};
 ghost use Rattle.laws.specs.Tests.{any};
 ghost use Rattle.implicit.specs.Codes.{entry_of, row_of};
 ghost use Rattle.implicit.specs.Lists.{implicit_of, entry_at};
+ghost use Rattle.implicit.specs.Ways.{access_by};
 ghost use Rattle.implicit.specs.Memory.{memory_form, memory_entry};
 
+use access::Access;
 use registers::RegSpec;
 
 // An entry reads or writes.
@@ -14,6 +16,17 @@ use registers::RegSpec;
 pub enum Way {
     Read,
     Write,
+}
+
+impl From<Way> for Access {
+    ghost from_gives = { λ w a. a ≡ access_by w };
+
+    fn from(way: Way) -> Access {
+        match way {
+            Way::Read => Access::Read,
+            Way::Write => Access::Write,
+        }
+    }
 }
 
 // One of four operand forms. A displacement below 0 is held as two to the 32 less.

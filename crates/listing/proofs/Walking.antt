@@ -17,7 +17,9 @@ use Rattle.access.specs.declared.Access.{Access}
 use Rattle.digest.proofs.Laws.{flags_number}
 use Rattle.digest.specs.Digests.{flags_access}
 use Rattle.implicit.specs.Lists.{entry_at, rdi}
+use Rattle.implicit.specs.Ways.{access_by}
 use Rattle.implicit.specs.declared.Way.{Way}
+use Rattle.implicit.specs.declared.Way.TheVariants.{Read, Write}
 use Rattle.implicit.specs.declared.ImplicitOperand.{ImplicitOperand}
 use Rattle.implicit.specs.declared.ImplicitOperand.TheVariants.{MemDeref}
 use Rattle.implicit.specs.declared.Entry.{Entry}
@@ -145,6 +147,11 @@ module _ (x : Record) (i : ℕ) where
     pub entry_over : {r : Step} → e ≡ None → r ≡ explicit_next x 0 → r ≡ implicit_next x i
     unfolding implicit_next
     entry_over p f = rw (← q, p) f
+
+-- a way is one access, however it is said
+pub by_way : (w : Way) → access_by w ≡ way_access w
+by_way Read = refl
+by_way Write = refl
 
 -- the flags
 module _ (x : Record) {a : Access} (e : a ≡ access_of (flags_access x.digest)) {n : ℕ} (k : n ≡ access_number a) where

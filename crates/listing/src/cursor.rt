@@ -71,26 +71,18 @@ fn implicit_next(x: Record, i: u8) -> Option<(Item, AccessIter)>
     }
 }
 
+#[tactic(auto, using(crate::proofs::Walking::by_way))]
 fn implicit_found(o: ImplicitOperand, way: Way, i: u8) -> Option<(Item, AccessIter)>
     requires { i < 4 }
     ensures { result ≡ Some (Implicit o (way_access way), place false (i + 2)) }
 {
     Some((
-        Item::Implicit(o, access_of(way)),
+        Item::Implicit(o, Access::from(way)),
         AccessIter {
             explicit: false,
             next: i + 2,
         },
     ))
-}
-
-fn access_of(way: Way) -> Access
-    ensures { result ≡ way_access way }
-{
-    match way {
-        Way::Read => Access::Read,
-        Way::Write => Access::Write,
-    }
 }
 
 // Explicit operand i, whatever its access.
