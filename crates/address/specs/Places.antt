@@ -7,7 +7,7 @@ use Rattle.implicit.specs.Lists.{rdi, rsi, implicit_of}
 use Rattle.implicit.specs.declared.ImplicitOperand.{ImplicitOperand}
 use Rattle.implicit.specs.declared.ImplicitOperand.TheVariants.{Register, MemDeref, Disp, MemBaseIndexScale}
 use Rattle.implicit.specs.declared.Entry.{Entry}
-use Rattle.implicit.specs.declared.Entry.TheVariants.{Operand, Slot, End}
+use Rattle.implicit.specs.declared.Entry.TheVariants.{Operand, Slot}
 use Rattle.record.specs.Records.{reg_at, address_size}
 use Rattle.record.specs.declared.Record.{Record}
 use Rattle.definition.specs.Addresses.{word, signed32, low_if, address_of, segment_register}
@@ -41,7 +41,6 @@ operand_place f v (MemBaseIndexScale y z k) = address_of f (record { base = Plai
 unfoldable pub entry_place : RegisterFile → Value → Entry → Value
 entry_place f v (Operand o w) = operand_place f v o
 entry_place f v (Slot i w) = v
-entry_place f v End = v
 
 unfoldable pub list_place : RegisterFile → List Entry → Value
 list_place f [] = None

@@ -66,7 +66,6 @@ operand_cost n m (implied.MemBaseIndexScale y z k) = n + n + m
 abbrev entry_cost : ℕ → ℕ → Entry → ℕ
 entry_cost n m (entries.Operand o w) = operand_cost n m o
 entry_cost n m (entries.Slot i w) = n
-entry_cost n m entries.End = 0
 
 module _ (n m : ℕ) where
   memory_cost : (w : Way) (v : Value) (s : ℕ) → event_cost n m (memory_event w v s) ≡ m
@@ -171,7 +170,6 @@ module _ (n m : ℕ) where
   unfolding entry_steps
   entry_cost_lem x (entries.Operand o w) = omega (arith, implied_cost x.size w o)
   entry_cost_lem x (entries.Slot i w) = simp (weigh_map, register_step_cost) (slot_cost x i)
-  entry_cost_lem x entries.End = zero-le
 
   -- where no implicit list costs over k, which antt computes
   lists_cost : (k : ℕ) → T (light (entry_cost n m) k implicits) → (l : ℕ) → weigh (entry_cost n m) (implicit_of l) ≤ k

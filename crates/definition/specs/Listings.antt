@@ -14,7 +14,7 @@ use Rattle.implicit.specs.declared.Way.TheVariants.{Read, Write}
 use Rattle.implicit.specs.declared.ImplicitOperand.{ImplicitOperand}
 use Rattle.implicit.specs.declared.ImplicitOperand.TheVariants.{Register, MemDeref, Disp, MemBaseIndexScale}
 use Rattle.implicit.specs.declared.Entry.{Entry}
-use Rattle.implicit.specs.declared.Entry.TheVariants.{Operand, Slot, End}
+use Rattle.implicit.specs.declared.Entry.TheVariants.{Operand, Slot}
 use Rattle.record.specs.Records.{record_of, record_tests, spec_at}
 use Rattle.record.specs.declared.Record.{Record}
 use Rattle.definition.specs.Behaviors.{complex}
@@ -32,7 +32,6 @@ way_access Write = accesses.Write
 unfoldable pub entry_items : Entry → List Item
 entry_items (Operand o w) = Implicit o (way_access w) ∷ []
 entry_items (Slot i w) = Implicit (MemDeref rdi) (way_access w) ∷ []
-entry_items End = []
 
 unfoldable pub explicit_at : Record → ℕ → Item
 explicit_at x i = Explicit i (spec_at x i) (access_of (access_at x.digest i))

@@ -109,7 +109,6 @@ implicit_step size w (implied.MemBaseIndexScale y z k) = touches w 0 (record { b
 unfoldable pub entry_steps : Record → Entry → List Step
 entry_steps x (entries.Operand o w) = implicit_step x.size w o ∷ []
 entry_steps x (entries.Slot i w) = map (register_step w) (slot_registers x i)
-entry_steps x entries.End = []
 
 abbrev pub rflags : RegSpec
 rflags = reg 11 0

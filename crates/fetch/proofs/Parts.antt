@@ -141,7 +141,6 @@ module _ (x : Record) where
   entry_needs_lem (entries.Operand (implied.Disp y n) w) = append-nil (slots_of y ++ []) ∙ append-nil (slots_of y)
   entry_needs_lem (entries.Operand (implied.MemBaseIndexScale y z k) w) = append-nil (slots_of y ++ (slots_of z ++ []))
   entry_needs_lem (entries.Slot i w) = moved_only w (slot_registers x i)
-  entry_needs_lem entries.End = refl
 
   flags_need : (a : ℕ) → each step_needs (flag_steps a) ≡ []
   unfolding flag_steps flat each step_needs

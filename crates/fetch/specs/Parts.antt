@@ -62,7 +62,6 @@ form_needs (implied.MemBaseIndexScale y z k) = each slots_of (y ∷ z ∷ [])
 unfoldable pub entry_needs : Entry → List ℕ
 entry_needs (entries.Operand o w) = form_needs o
 entry_needs (entries.Slot i w) = []
-entry_needs entries.End = []
 
 unfoldable pub list_needs : ℕ → List ℕ
 list_needs l = each entry_needs (implicit_of l)

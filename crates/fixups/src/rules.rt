@@ -159,6 +159,7 @@ fn fix_return(x: Record) -> BehaviorDigest
 }
 
 // The rule of the opcode, on the base digest.
+// Stays: document 01's form, fix-ups choose by opcode number in a match.
 #[tactic(auto, using(crate::proofs::Opcodes::unruled_below, crate::proofs::Opcodes::unruled_past))]
 pub fn fix_up(x: Record) -> BehaviorDigest
     ensures { result ≡ fix_up (rule_of x.opcode) x x.digest }

@@ -1,4 +1,5 @@
 -- The code's rows and bits say what the lists say: each by one equation between whole tables, which antt computes. Assumes nothing.
+use Rattle.std.specs.Prelude.{Option, None, slice_get}
 use Prim.Native.Nat.{ℕ, zero, suc, ◌<◌}
 use native.Mathlib.Nat.{le_of_suc-le-suc, not-suc-le-zero}
 use mathlib.Core.Path.{◌≡◌, refl, sym, ap, ◌∙◌}
@@ -8,7 +9,6 @@ use lib.ListN.{get_or, get_or-map}
 use Rattle.laws.specs.Tests.{any}
 use Rattle.laws.specs.Words.{bit}
 use Rattle.implicit.specs.declared.Entry.{Entry}
-use Rattle.implicit.specs.declared.Entry.TheVariants.{End}
 use Rattle.implicit.specs.Codes.{entry_of, code_in, rows, row_of}
 use Rattle.implicit.specs.Lists.{implicits, implicit_of, entry_at}
 use Rattle.implicit.specs.Memory.{memory_entry}
@@ -24,11 +24,11 @@ module _ {A : Type 0} where
   firsts_at (suc n) f d zero h = refl
   firsts_at (suc n) f d (suc k) h = firsts_at n (λ k. f (suc k)) d k (le_of_suc-le-suc h)
 
--- the four places of a list, `End` where it has fewer; and what a row holds in its four
-abbrev filled : List Entry → List Entry
-filled es = firsts 4 (λ i. get_or es i End)
+-- the four places of a list, none where it has fewer; and what a row holds in its four
+abbrev filled : List Entry → List (Option Entry)
+filled es = firsts 4 (slice_get es)
 
-abbrev held : ℕ → List Entry
+abbrev held : ℕ → List (Option Entry)
 held row = firsts 4 (λ i. entry_of (code_in row i))
 
 -- the test of the whole table
@@ -39,12 +39,12 @@ rows_hold = refl
 pub rows_right : (l i : ℕ) → i < 4 → entry_of (code_in (row_of l) i) ≡ entry_at l i
 unfolding entry_of code_in implicit_of entry_at
 rows_right l i h =
-    sym (firsts_at 4 (λ i. entry_of (code_in (row_of l) i)) End i h)
-    ∙ ap (λ (es : List Entry). get_or es i End)
+    sym (firsts_at 4 (λ i. entry_of (code_in (row_of l) i)) None i h)
+    ∙ ap (λ (es : List (Option Entry)). get_or es i None)
     (sym (get_or-map held rows l 0)
-    ∙ ap (λ (ls : List (List Entry)). get_or ls l (held 0)) rows_hold
+    ∙ ap (λ (ls : List (List (Option Entry))). get_or ls l (held 0)) rows_hold
     ∙ get_or-map filled implicits l [])
-    ∙ firsts_at 4 (λ i. get_or (implicit_of l) i End) End i h
+    ∙ firsts_at 4 (slice_get (implicit_of l)) None i h
 
 -- bits, one for each list, that pass the test of all of them
 pub bits_right :

@@ -1,11 +1,11 @@
 -- The implicit lists 0 to 28, as document 01 writes them.
-use Rattle.std.specs.Prelude.{ℕ, ◌-◌, ◌^◌, List, [], ◌∷◌, get_or}
+use Rattle.std.specs.Prelude.{ℕ, ◌-◌, ◌^◌, Option, List, [], ◌∷◌, get_or, slice_get}
 use Rattle.registers.specs.Banks.{reg}
 use Rattle.registers.specs.declared.RegSpec.{RegSpec}
 use Rattle.implicit.specs.declared.Way.TheVariants.{Read, Write}
 use Rattle.implicit.specs.declared.ImplicitOperand.TheVariants.{Register, MemDeref, Disp, MemBaseIndexScale}
 use Rattle.implicit.specs.declared.Entry.{Entry}
-use Rattle.implicit.specs.declared.Entry.TheVariants.{Operand, Slot, End}
+use Rattle.implicit.specs.declared.Entry.TheVariants.{Operand, Slot}
 
 abbrev pub al : RegSpec
 al = reg 4 0
@@ -115,6 +115,6 @@ implicits =
 unfoldable pub implicit_of : ℕ → List Entry
 implicit_of l = get_or implicits l []
 
--- entry i of a list, and the end past the last
-unfoldable pub entry_at : ℕ → ℕ → Entry
-entry_at l i = get_or (implicit_of l) i End
+-- entry i of a list, and none past the last
+unfoldable pub entry_at : ℕ → ℕ → Option Entry
+entry_at l i = slice_get (implicit_of l) i

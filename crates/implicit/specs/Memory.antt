@@ -3,7 +3,7 @@ use Rattle.std.specs.Prelude.{Bool, true, false}
 use Rattle.implicit.specs.declared.ImplicitOperand.{ImplicitOperand}
 use Rattle.implicit.specs.declared.ImplicitOperand.TheVariants.{Register, MemDeref, Disp, MemBaseIndexScale}
 use Rattle.implicit.specs.declared.Entry.{Entry}
-use Rattle.implicit.specs.declared.Entry.TheVariants.{Operand, Slot, End}
+use Rattle.implicit.specs.declared.Entry.TheVariants.{Operand, Slot}
 
 abbrev pub memory_form : ImplicitOperand → Bool
 memory_form (Register x) = false
@@ -15,4 +15,3 @@ memory_form (MemBaseIndexScale x y s) = true
 abbrev pub memory_entry : Entry → Bool
 memory_entry (Operand o way) = memory_form o
 memory_entry (Slot n way) = true
-memory_entry End = false

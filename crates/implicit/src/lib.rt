@@ -5,8 +5,10 @@ ghost use Rattle.std.specs.Prelude.{◌≡◌};
 ghost use Rattle.laws.specs.Tests.{any};
 ghost use Rattle.implicit.specs.Codes.{entry_of, row_of};
 ghost use Rattle.implicit.specs.Lists.{implicit_of, entry_at};
+ghost use Rattle.implicit.specs.Ways.{access_by};
 ghost use Rattle.implicit.specs.Memory.{memory_form, memory_entry};
 
+use access::Access;
 use registers::RegSpec;
 
 // An entry reads or writes.
@@ -14,6 +16,17 @@ use registers::RegSpec;
 pub enum Way {
     Read,
     Write,
+}
+
+impl From<Way> for Access {
+    ghost from_gives = { λ w a. a ≡ access_by w };
+
+    fn from(way: Way) -> Access {
+        match way {
+            Way::Read => Access::Read,
+            Way::Write => Access::Write,
+        }
+    }
 }
 
 // One of four operand forms. A displacement below 0 is held as two to the 32 less.
@@ -30,7 +43,6 @@ pub enum ImplicitOperand {
 pub enum Entry {
     Operand(ImplicitOperand, Way),
     Slot(u8, Way),
-    End,
 }
 
 const MINUS_8: u32 = 0xFFFF_FFF8;
@@ -86,7 +98,7 @@ fn row_of(list: u16) -> u64
 }
 
 // The hexadecimal digits of a code are 0, a form, a bank and a number.
-fn entry_of(code: u16) -> Entry
+fn entry_of(code: u16) -> Option<Entry>
     ensures { result ≡ entry_of code }
 {
     let number = (code % 16) as u8;
@@ -95,7 +107,7 @@ fn entry_of(code: u16) -> Entry
         number,
     };
     let al = RegSpec { bank: 4, number: 0 };
-    match code / 256 {
+    let entry = match code / 256 {
         1 => Entry::Operand(ImplicitOperand::Register(x), Way::Read),
         2 => Entry::Operand(ImplicitOperand::Register(x), Way::Write),
         3 => Entry::Operand(ImplicitOperand::MemDeref(x), Way::Read),
@@ -104,16 +116,17 @@ fn entry_of(code: u16) -> Entry
         6 => Entry::Operand(ImplicitOperand::MemBaseIndexScale(x, al, 1), Way::Read),
         7 => Entry::Slot(number, Way::Read),
         8 => Entry::Slot(number, Way::Write),
-        _ => Entry::End,
-    }
+        _ => return None,
+    };
+    Some(entry)
 }
 
-// Entry i of a list: `End` past the last, and for a list that is not there.
-pub fn implicit_entry(list: u16, i: u8) -> Entry
+// Entry i of a list: none past the last, and of a list that is not there.
+pub fn implicit_entry(list: u16, i: u8) -> Option<Entry>
     ensures { result ≡ entry_at list i }
 {
     if i > 3 {
-        return Entry::End;
+        return None;
     }
     let rest = row_of(list) >> (16 * i);
     entry_of((rest % 65536) as u16)
@@ -122,12 +135,7 @@ pub fn implicit_entry(list: u16, i: u8) -> Entry
 fn is_memory_form(o: ImplicitOperand) -> bool
     ensures { result ≡ memory_form o }
 {
-    match o {
-        ImplicitOperand::Register(_) => false,
-        ImplicitOperand::MemDeref(_) => true,
-        ImplicitOperand::Disp(_, _) => true,
-        ImplicitOperand::MemBaseIndexScale(_, _, _) => true,
-    }
+    !matches!(o, ImplicitOperand::Register(_))
 }
 
 pub fn is_memory(e: Entry) -> bool
@@ -136,7 +144,6 @@ pub fn is_memory(e: Entry) -> bool
     match e {
         Entry::Operand(o, _) => is_memory_form(o),
         Entry::Slot(_, _) => true,
-        Entry::End => false,
     }
 }
 

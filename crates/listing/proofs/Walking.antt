@@ -1,5 +1,5 @@
 -- A step of the walk takes the first of the items that are left, and leaves the others. Assumes nothing.
-use Rattle.std.specs.Prelude.{None, Some}
+use Rattle.std.specs.Prelude.{Option, None, Some}
 use Prim.Native.Nat.{ℕ, zero, suc, ◌+◌, ◌-◌, ◌≤◌, ◌<◌}
 use native.Mathlib.Omega.{arith}
 use borrow.Author.Tests.{ne_eqb, eq-eqb}
@@ -17,18 +17,20 @@ use Rattle.access.specs.declared.Access.{Access}
 use Rattle.digest.proofs.Laws.{flags_number}
 use Rattle.digest.specs.Digests.{flags_access}
 use Rattle.implicit.specs.Lists.{entry_at, rdi}
+use Rattle.implicit.specs.Ways.{access_by}
 use Rattle.implicit.specs.declared.Way.{Way}
+use Rattle.implicit.specs.declared.Way.TheVariants.{Read, Write}
 use Rattle.implicit.specs.declared.ImplicitOperand.{ImplicitOperand}
 use Rattle.implicit.specs.declared.ImplicitOperand.TheVariants.{MemDeref}
 use Rattle.implicit.specs.declared.Entry.{Entry}
-use Rattle.implicit.specs.declared.Entry.TheVariants.{Operand, Slot, End}
-use Rattle.implicit.proofs.Laws.{is_end, step, stop, below_four}
+use Rattle.implicit.specs.declared.Entry.TheVariants.{Operand, Slot}
+use Rattle.implicit.proofs.Laws.{step, stop, below_four}
 use Rattle.record.specs.declared.Record.{Record}
 use Rattle.definition.specs.declared.Item.{Item}
 use Rattle.definition.specs.declared.Item.TheVariants.{Flags, Implicit}
 use Rattle.definition.specs.Listings.{way_access, entry_items, explicit_at, flag_items, items_of}
 use Rattle.listing.specs.declared.AccessIter.{AccessIter}
-use Rattle.listing.specs.Cursors.{Step, place, explicit_items, implicit_items, items_from, first_in, explicit_next, implicit_next, flags_next, next_of, items_by}
+use Rattle.listing.specs.Cursors.{Step, items_at, place, explicit_items, implicit_items, items_from, first_in, explicit_next, implicit_next, flags_next, next_of, items_by}
 
 -- all items are left at the first place
 pub at_first : (x : Record) → items_from x (place false 0) ≡ items_of x
@@ -55,24 +57,24 @@ module _ (x : Record) (i : ℕ) where
 
 module _ (x : Record) (i : ℕ) where
   entry_here :
-      {e : Entry} {item : Item} → entry_at x.digest.extra i ≡ e → is_end e ≡ false → entry_items e ≡ item ∷ []
+      {e : Entry} {item : Item} → entry_at x.digest.extra i ≡ Some e → entry_items e ≡ item ∷ []
       → implicit_items x i ++ explicit_items x ≡ item ∷ items_from x (place false (i + 2))
   unfolding implicit_items each
-  entry_here p q r =
+  entry_here p r =
       let behind = implicit_at x (i + 1) {k = i + 2} (omega arith) in
-      rw (step x.digest.extra i p q, r, behind)
+      rw (step x.digest.extra i p, r, behind)
 
-  entry_none : entry_at x.digest.extra i ≡ End → implicit_items x i ++ explicit_items x ≡ explicit_items x
+  entry_none : entry_at x.digest.extra i ≡ None → implicit_items x i ++ explicit_items x ≡ explicit_items x
   unfolding implicit_items each
   entry_none p = rw (stop x.digest.extra i p)
 
   entry_left :
-      (e : Entry) → entry_at x.digest.extra i ≡ e
-      → implicit_items x i ++ explicit_items x ≡ items_by x (first_in (entry_items e) (place false (i + 2)) (explicit_next x 0))
+      (e : Option Entry) → entry_at x.digest.extra i ≡ e
+      → implicit_items x i ++ explicit_items x ≡ items_by x (first_in (items_at e) (place false (i + 2)) (explicit_next x 0))
   unfolding entry_items
-  entry_left (Operand o w) p = entry_here p refl refl
-  entry_left (Slot n w) p = entry_here p refl refl
-  entry_left End p = entry_none p ∙ explicit_left x 0
+  entry_left (Some (Operand o w)) p = entry_here p refl
+  entry_left (Some (Slot n w)) p = entry_here p refl
+  entry_left None p = entry_none p ∙ explicit_left x 0
 
   implicit_left : implicit_items x i ++ explicit_items x ≡ items_by x (implicit_next x i)
   unfolding implicit_next
@@ -127,26 +129,29 @@ module _ (x : Record) (i : ℕ) where
       rw (drop_of_length-le (take x.count four) past)
 
   -- an entry of the implicit list: it is one of four, and its item is what is found
-  module _ {e : Entry} (q : e ≡ entry_at x.digest.extra i) where
-    pub operand_below : {o : ImplicitOperand} {w : Way} → e ≡ Operand o w → i < 4
-    operand_below p = below_four x.digest.extra i (sym q ∙ p) refl
+  module _ {e : Option Entry} (q : e ≡ entry_at x.digest.extra i) where
+    pub entry_below : {v : Entry} → e ≡ Some v → i < 4
+    entry_below p = below_four x.digest.extra i (sym q ∙ p)
 
-    pub slot_below : {n : ℕ} {w : Way} → e ≡ Slot n w → i < 4
-    slot_below p = below_four x.digest.extra i (sym q ∙ p) refl
+    module _ {v : Entry} (p : e ≡ Some v) where
+      pub operand_found :
+          {o : ImplicitOperand} {w : Way} {r : Step} → v ≡ Operand o w → r ≡ Some (Implicit o (way_access w), place false (i + 2)) → r ≡ implicit_next x i
+      unfolding implicit_next entry_items
+      operand_found k f = rw (← q, p, k) f
 
-    pub operand_found :
-        {o : ImplicitOperand} {w : Way} {r : Step} → e ≡ Operand o w → r ≡ Some (Implicit o (way_access w), place false (i + 2)) → r ≡ implicit_next x i
-    unfolding implicit_next entry_items
-    operand_found p f = rw (← q, p) f
+      pub slot_found :
+          {n : ℕ} {w : Way} {r : Step} → v ≡ Slot n w → r ≡ Some (Implicit (MemDeref rdi) (way_access w), place false (i + 2)) → r ≡ implicit_next x i
+      unfolding implicit_next entry_items
+      slot_found k f = rw (← q, p, k) f
 
-    pub slot_found :
-        {n : ℕ} {w : Way} {r : Step} → e ≡ Slot n w → r ≡ Some (Implicit (MemDeref rdi) (way_access w), place false (i + 2)) → r ≡ implicit_next x i
-    unfolding implicit_next entry_items
-    slot_found p f = rw (← q, p) f
-
-    pub entry_over : {r : Step} → e ≡ End → r ≡ explicit_next x 0 → r ≡ implicit_next x i
-    unfolding implicit_next entry_items
+    pub entry_over : {r : Step} → e ≡ None → r ≡ explicit_next x 0 → r ≡ implicit_next x i
+    unfolding implicit_next
     entry_over p f = rw (← q, p) f
+
+-- a way is one access, however it is said
+pub by_way : (w : Way) → access_by w ≡ way_access w
+by_way Read = refl
+by_way Write = refl
 
 -- the flags
 module _ (x : Record) {a : Access} (e : a ≡ access_of (flags_access x.digest)) {n : ℕ} (k : n ≡ access_number a) where

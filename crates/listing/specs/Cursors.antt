@@ -4,6 +4,7 @@ use Rattle.std.specs.Prelude.{ℕ, ◌+◌, ◌-◌, Option, None, Some, Bool, t
 use Rattle.laws.specs.Lists.{each}
 use Rattle.digest.specs.Digests.{flags_access}
 use Rattle.implicit.specs.Lists.{implicit_of, entry_at}
+use Rattle.implicit.specs.declared.Entry.{Entry}
 use Rattle.record.specs.declared.Record.{Record}
 use Rattle.definition.specs.declared.Item.{Item}
 use Rattle.definition.specs.Listings.{entry_items, explicit_at, flag_items, items_of}
@@ -28,6 +29,11 @@ items_from x c =
 abbrev pub Step : Type 0
 Step = Option (Item × AccessIter)
 
+-- what is found at a place of the implicit list
+abbrev pub items_at : Option Entry → List Item
+items_at (Some e) = entry_items e
+items_at None = []
+
 -- The answers, by where the walk stands: the first of the items there and the place behind it; where there are none, what follows
 abbrev pub first_in : List Item → AccessIter → Step → Step
 first_in [] c r = r
@@ -37,7 +43,7 @@ unfoldable pub explicit_next : Record → ℕ → Step
 explicit_next x i = first_in (drop i (explicit_items x)) (place true (i + 1)) None
 
 unfoldable pub implicit_next : Record → ℕ → Step
-implicit_next x i = first_in (entry_items (entry_at x.digest.extra i)) (place false (i + 2)) (explicit_next x 0)
+implicit_next x i = first_in (items_at (entry_at x.digest.extra i)) (place false (i + 2)) (explicit_next x 0)
 
 unfoldable pub flags_next : Record → Step
 flags_next x = first_in (flag_items (flags_access x.digest)) (place false 1) (implicit_next x 0)

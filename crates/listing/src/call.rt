@@ -12,6 +12,7 @@ use digest::BehaviorDigest;
 use record::Record;
 use registers::RegSpec;
 
+// Stays: document 01's form, each writer is lent the part of the buffer behind what was written so far.
 // All items of a record after fix-ups. The cursor is handed on by its fields: as a whole it would go through memory.
 fn put_items(out: &mut [u8], x: Record) -> usize
     requires { size item_bytes (items_of x) ≤ length out.old }

@@ -57,42 +57,32 @@ fn flags_next(x: Record) -> Option<(Item, AccessIter)>
 }
 
 // Entry i of the implicit list, or past its end the first explicit operand. A string slot lists as memory at rdi, whatever its own register.
-#[tactic(auto, using(crate::proofs::Walking::operand_below, crate::proofs::Walking::slot_below, crate::proofs::Walking::entry_over))]
+#[tactic(auto, using(crate::proofs::Walking::entry_below, crate::proofs::Walking::entry_over))]
 fn implicit_next(x: Record, i: u8) -> Option<(Item, AccessIter)>
     ensures { result ≡ implicit_next x i }
 {
-    let digest = x.digest;
-    let entry = implicit::implicit_entry(digest.extra, i);
-    match entry {
-        Entry::Operand(o, way) => implicit_found(o, way, i),
-        Entry::Slot(_, way) => {
+    match implicit::implicit_entry(x.digest.extra, i) {
+        Some(Entry::Operand(o, way)) => implicit_found(o, way, i),
+        Some(Entry::Slot(_, way)) => {
             let rdi = RegSpec { bank: 0, number: 7 };
             implicit_found(ImplicitOperand::MemDeref(rdi), way, i)
         }
-        Entry::End => explicit_next(x, 0),
+        None => explicit_next(x, 0),
     }
 }
 
+#[tactic(auto, using(crate::proofs::Walking::by_way))]
 fn implicit_found(o: ImplicitOperand, way: Way, i: u8) -> Option<(Item, AccessIter)>
     requires { i < 4 }
     ensures { result ≡ Some (Implicit o (way_access way), place false (i + 2)) }
 {
     Some((
-        Item::Implicit(o, access_of(way)),
+        Item::Implicit(o, Access::from(way)),
         AccessIter {
             explicit: false,
             next: i + 2,
         },
     ))
-}
-
-fn access_of(way: Way) -> Access
-    ensures { result ≡ way_access way }
-{
-    match way {
-        Way::Read => Access::Read,
-        Way::Write => Access::Write,
-    }
 }
 
 // Explicit operand i, whatever its access.

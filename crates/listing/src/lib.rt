@@ -10,6 +10,7 @@ pub use items::put_item;
 
 // A place in the walk, as the Rust's iterator holds it without the record: before the explicit operands, `next` 0 stands at the flags and
 // `next` i + 1 at entry i of the implicit list; among the explicit operands, `next` i stands at operand i.
+// Stays: document 01's form, a cursor by value without the record; an Iterator would hold it.
 #[derive(Clone, Copy)]
 pub struct AccessIter {
     pub explicit: bool,

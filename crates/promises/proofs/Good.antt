@@ -144,7 +144,6 @@ operand_test l (implied.MemBaseIndexScale y z n) = (register_test y && register_
 abbrev entry_test : ℕ → Entry → Bool
 entry_test l (entries.Operand o w) = operand_test l o
 entry_test l (entries.Slot i w) = true
-entry_test l entries.End = true
 
 list_good : (l : ℕ) → any (λ (e : Entry). not (entry_test l e)) (implicit_of l) ≡ false
 unfolding implicit_of any is_logged is_in
@@ -357,7 +356,6 @@ module _ (x : Record) (s : Sound x) where
     unfolding entry_steps
     entry_good (entries.Operand o w) h = (implied_good w o h, tt)
     entry_good (entries.Slot i w) h = every_map GoodStep (register_step w) (slot_registers x i) (every_weaken Good _ (register_step_good w) (slot_registers x i) (slot_good i))
-    entry_good entries.End h = tt
 
     flags_good : (a : ℕ) → Every GoodStep (flag_steps a)
     unfolding flag_steps is_logged flat

@@ -11,7 +11,8 @@ use Rattle.implicit.specs.Lists.{entry_at}
 use Rattle.implicit.specs.declared.Way.TheVariants.{Read, Write}
 use Rattle.implicit.specs.declared.ImplicitOperand.TheVariants.{Register}
 use Rattle.implicit.specs.declared.Entry.{Entry}
-use Rattle.implicit.specs.declared.Entry.TheVariants.{Operand, Slot, End}
+use Rattle.std.specs.Prelude.{Option, None, Some}
+use Rattle.implicit.specs.declared.Entry.TheVariants.{Operand, Slot}
 use Rattle.record.specs.Records.{record_of, record_answer}
 use Rattle.definition.specs.Behaviors.{digest_call, privilege_call, exceptions_call, privilege_number, privilege_in}
 use Rattle.definition.specs.Limits.{most_listed}
@@ -285,16 +286,16 @@ records =
     ∷ ((count 5 ∷ long 39 ∷ []), Err Malformed)
     ∷ []
 
-abbrev pub entry_for : ℕ × ℕ → Entry
+abbrev pub entry_for : ℕ × ℕ → Option Entry
 entry_for e = entry_at e.0 e.1
 
-unfoldable pub entries : List ((ℕ × ℕ) × Entry)
+unfoldable pub entries : List ((ℕ × ℕ) × Option Entry)
 entries =
-    ((26, 1), Operand (Register (banks.reg 0 4)) Write)
-    ∷ ((25, 2), Slot 1 Read)
-    ∷ ((26, 3), End)
-    ∷ ((0, 0), End)
-    ∷ ((29, 0), End)
+    ((26, 1), Some (Operand (Register (banks.reg 0 4)) Write))
+    ∷ ((25, 2), Some (Slot 1 Read))
+    ∷ ((26, 3), None)
+    ∷ ((0, 0), None)
+    ∷ ((29, 0), None)
     ∷ []
 
 -- Setters: a vector above 31, an operand above 3 and a list above 28 are refused 2

@@ -22,11 +22,11 @@ pub loop-i-preserved : goal.loop-i-preserved
 loop-i-preserved g c = λ p asked.
     let x = c.args.x in
     elim c.else-is_accessed.branch [
-      else-is_accessed-via-then-is_accessed+else-test w ↦
-        miss p x (c.loop-i.invariant p asked) (omega (arith, operands_length x)) c.is_accessed.ensures
-        w.spec.ensures (asked _ _ w.test.ensures) w.if-is_accessed.true w.if-test.false
+      | else-is_accessed-via-then-is_accessed+else-test w ↦
+          miss p x (c.loop-i.invariant p asked) (omega (arith, operands_length x)) c.is_accessed.ensures
+          w.spec.ensures (asked _ _ w.test.ensures) w.if-is_accessed.true w.if-test.false
       | else-is_accessed-via-else-is_accessed w ↦
-        unaccessed p x (c.loop-i.invariant p asked) (omega (arith, operands_length x)) c.is_accessed.ensures w.if-is_accessed.false
+          unaccessed p x (c.loop-i.invariant p asked) (omega (arith, operands_length x)) c.is_accessed.ensures w.if-is_accessed.false
     ]
 
 pub returns : goal.returns
