@@ -4,17 +4,25 @@ use lib.Dec.{lit<, lit≤}
 use lib.ListN.{replicate}
 use Rattle.registers.specs.Files.{file_of, is_file}
 use Rattle.definition.specs.Limits.{most_bytes}
+use Rattle.laws.proofs.Answered.{passed, refused_not}
+use Rattle.record.proofs.Laws.{number_read}
+use Rattle.registers.proofs.Answers.{number_filed}
 use Rattle.visiting.proofs.Calls.{bad_record, bad_file_lem, good_file}
 use Rattle.visiting.proofs.Rooms.{lent_on, within_is, laid_is}
 use Rattle.visiting.proofs.visit.+visit_accesses_visit_tight.Goals as goal
 
-pub visit_accesses-returns-then-unread-ne0 : goal.visit_accesses-returns-then-unread-ne0
-visit_accesses-returns-then-unread-ne0 t c =
-    bad_record c.args.b.now c.args.log.now c.args.start (not (is_file c.args.file.now)) (file_of c.args.file.now) c.refusal_of-unread.ensures c.if-unread-ne0.true
+pub visit_accesses-returns-in-Err : goal.visit_accesses-returns-in-Err
+visit_accesses-returns-in-Err t c =
+    bad_record c.args.b.now c.args.log.now c.args.start (not (is_file c.args.file.now)) (file_of c.args.file.now)
+    (c.from.ensures ∙ number_read c.args.b.now _ c.check.ensures c.in-Err.is)
+    (rw (c.from.ensures ∙ number_read c.args.b.now _ c.check.ensures c.in-Err.is) (refused_not _ _ c.check.ensures c.in-Err.is))
 
-pub visit_accesses-returns-then-unfiled-ne0 : goal.visit_accesses-returns-then-unfiled-ne0
-visit_accesses-returns-then-unfiled-ne0 t c =
-    bad_file_lem c.args.b.now c.args.log.now c.args.start c.args.file.now c.refusal_of-unread.ensures c.if-unread-ne0.false c.refusal_of-unfiled.ensures c.if-unfiled-ne0.true
+pub visit_accesses-returns-in-Err-check : goal.visit_accesses-returns-in-Err-check
+visit_accesses-returns-in-Err-check t c =
+    bad_file_lem c.args.b.now c.args.log.now c.args.start c.args.file.now refl (passed _ _ c.check.ensures c.in_default.is)
+    (c.from-in-Err-check.ensures ∙ number_filed c.args.file.now c.check-2.ensures c.in-Err-check.is)
+    (rw (c.from-in-Err-check.ensures ∙ number_filed c.args.file.now c.check-2.ensures c.in-Err-check.is)
+    (refused_not _ _ c.check-2.ensures c.in-Err-check.is))
 
 pub visit_accesses-visit_tight-requires : goal.visit_accesses-visit_tight-requires
 visit_accesses-visit_tight-requires t c =
@@ -23,7 +31,7 @@ visit_accesses-visit_tight-requires t c =
 pub visit_accesses-returns : goal.visit_accesses-returns
 visit_accesses-returns t c =
     lent_on false c.args.b.now (file_of c.args.file.now) c.args.log.now c.args.start (sym c.lacks_room.ensures ∙ c.if-lacks_room.false) c.visit_record.ensures
-    ∙ good_file c.args.b.now c.args.log.now c.args.start c.args.file.now c.refusal_of-unfiled.ensures c.if-unfiled-ne0.false refl
+    ∙ good_file c.args.b.now c.args.log.now c.args.start c.args.file.now refl (passed _ _ c.check-2.ensures c.in_default-check.is) refl
 
 pub visit_tight-visit_accesses-answer-requires : goal.visit_tight-visit_accesses-answer-requires
 visit_tight-visit_accesses-answer-requires t c =
