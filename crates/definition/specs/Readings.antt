@@ -1,6 +1,8 @@
 -- Reading a log: the event at a place and the place after it.
 use Rattle.std.specs.Prelude.{ℕ, ◌+◌, ◌≡◌, List, [], ◌∷◌, Bool, cond, ◌&&◌, ◌||◌, length, get_or, drop, ltb, leb, eqb}
 use Rattle.laws.specs.Words.{number_at}
+use Rattle.laws.specs.Refusals.{refusal_number}
+use Rattle.laws.specs.declared.refusals.Refusal.TheVariants.{Malformed, Outside}
 use Rattle.registers.specs.Banks.{reg, is_logged}
 use Rattle.definition.specs.declared.Event.{Event}
 use Rattle.definition.specs.declared.Event.TheVariants.{RegisterRead, RegisterWrite, MemoryRead, MemoryWrite, UnknownRead, UnknownWrite}
@@ -39,12 +41,12 @@ is_event (UnknownWrite n) = is_size n
 unfoldable pub read_front : List ℕ → Reading
 read_front [] = Finished
 read_front (k ∷ l) =
-    cond (eqb (body_of k) 0 || ltb (length l) (body_of k)) (Bad 1)
-    (cond (is_event (front_event (k ∷ l))) (Found (front_event (k ∷ l)) (1 + body_of k)) (Bad 2))
+    cond (eqb (body_of k) 0 || ltb (length l) (body_of k)) (Bad Malformed)
+    (cond (is_event (front_event (k ∷ l))) (Found (front_event (k ∷ l)) (1 + body_of k)) (Bad Outside))
 
 abbrev pub placed : ℕ → Reading → Reading
 placed at (Found e n) = Found e (at + n)
-placed at (Bad k) = Bad k
+placed at (Bad r) = Bad r
 placed at Finished = Finished
 
 -- reading from a place on: finished at or past the end
@@ -59,5 +61,5 @@ pub data Reads : List ℕ → List Event → Type 0 where
 -- document 01's number of a reading: 0 an event, 1 or 2 refused, 255 finished; and the event's length in bytes
 abbrev pub reading_number : Reading → ℕ
 reading_number (Found e n) = 0
-reading_number (Bad k) = k
+reading_number (Bad r) = refusal_number r
 reading_number Finished = 255

@@ -3,6 +3,7 @@
 
 use access::{Access, PrivilegeLevel};
 use implicit::ImplicitOperand;
+use laws::Refusal;
 use registers::RegSpec;
 
 // What a spec stands for: a register by its place in `regs`, masked or not; Reg4; an immediate; or memory by its parts.
@@ -52,7 +53,7 @@ pub struct Address {
 }
 
 // An event of a log. The last number of a memory event is its size.
-#[derive(Clone, Copy)]
+#[derive(Clone, Copy, PartialEq, Eq)]
 pub enum Event {
     RegisterRead(RegSpec),
     RegisterWrite(RegSpec),
@@ -66,7 +67,7 @@ pub enum Event {
 #[derive(Clone, Copy)]
 pub enum Reading {
     Found(Event, usize),
-    Bad(u8),
+    Bad(Refusal),
     Finished,
 }
 

@@ -7,13 +7,13 @@ use mathlib.Core.List.{List}
 use mathlib.Core.Bool.{Bool, true, false, ◌||◌}
 use lib.ListN.{length, drop, length-drop, drop_of_length-le}
 use lib.Dec.{ltb}
+use Rattle.std.specs.Prelude.{Result, Ok, Err}
+use Rattle.laws.specs.declared.refusals.Refusal.{Refusal}
 use Rattle.laws.proofs.Lending.{part, part_is}
 use Rattle.definition.specs.Readings.{Reads, end, next}
 use Rattle.definition.specs.declared.Event.{Event}
 use Rattle.event.specs.Wholes.{Whole, all, broken, events_in, whole_of}
-use Rattle.event.specs.Counts.{count_in, counted_of, counted_number}
-use Rattle.event.specs.declared.walk.Counted.{Counted}
-use Rattle.event.specs.declared.walk.Counted.TheVariants.{All, Refused}
+use Rattle.event.specs.Counts.{count_in, counted_of}
 use Rattle.event.proofs.Fronts.{holds}
 use Rattle.event.proofs.Wholes.{whole_reads}
 use Rattle.event.proofs.Cuts.{Cut, reads_cut}
@@ -48,44 +48,41 @@ module _ (a b : List ℕ) (xs ys : List Event) (r : Reads a xs) (q : Reads b ys)
       ap₂ ◌||◌ (left_behind a (parting_at xs ys) ∙ any_left (drop (parting_at xs ys) a) (left_of xs ys) cut_first.behind)
       (left_behind b (parting_at xs ys) ∙ any_left (drop (parting_at xs ys) b) (rest_of xs ys) cut_second.behind)
 
-not_both : (n k : ℕ) → All n ≡ Refused k → ⊥
-not_both n k e = let z : ◌≡◌ {A = ℕ} 0 1 = cc in omega arith
-
 -- the answer by the counts, as code finds them
-module _ (a b : List ℕ) {r : Counted} (first : r ≡ counted_of a) where
-  pub first_refused : {k : ℕ} → r ≡ Refused k → refused (counted_number r) b ≡ parted_of a b
+module _ (a b : List ℕ) {c : Result ℕ Refusal} (first : c ≡ counted_of a) where
+  pub first_refused : {r : Refusal} → c ≡ Err r → refused r b ≡ parted_of a b
   unfolding counted_of parted_of
-  first_refused {k} h = by_first (whole_of a) first
+  first_refused {r} h = by_first (whole_of a) first
     where
-      by_first : (v : Whole) → r ≡ count_in v → refused (counted_number r) b ≡ parted_by v (whole_of b) b
-      by_first (all es) e = absurd (not_both (length es) k (sym e ∙ h))
-      by_first (broken es j) e = ap (λ (c : Counted). refused (counted_number c) b) e
+      by_first : (v : Whole) → c ≡ count_in v → refused r b ≡ parted_by v (whole_of b) b
+      by_first (all es) e = cc
+      by_first (broken es q) e = let same : r ≡ q = cc in rw same
 
-  module _ {n : ℕ} (read : r ≡ All n) {s : Counted} (second : s ≡ counted_of b) where
-    pub second_refused : {k : ℕ} → s ≡ Refused k → refused (counted_number s) b ≡ parted_of a b
+  module _ {n : ℕ} (read : c ≡ Ok n) {d : Result ℕ Refusal} (second : d ≡ counted_of b) where
+    pub second_refused : {r : Refusal} → d ≡ Err r → refused r b ≡ parted_of a b
     unfolding counted_of parted_of
-    second_refused {k} h = by_both (whole_of a) (whole_of b) first second
+    second_refused {r} h = by_both (whole_of a) (whole_of b) first second
       where
-        by_both : (v w : Whole) → r ≡ count_in v → s ≡ count_in w → refused (counted_number s) b ≡ parted_by v w b
-        by_both (all xs) (all ys) d e = absurd (not_both (length ys) k (sym e ∙ h))
-        by_both (all xs) (broken es j) d e = ap (λ (c : Counted). refused (counted_number c) b) e
-        by_both (broken es j) w d e = absurd (not_both n j (sym read ∙ d))
+        by_both : (v w : Whole) → c ≡ count_in v → d ≡ count_in w → refused r b ≡ parted_by v w b
+        by_both (all xs) (all ys) p e = cc
+        by_both (all xs) (broken es q) p e = let same : r ≡ q = cc in rw same
+        by_both (broken es q) w p e = cc
 
     pub compared :
-        {m : ℕ} → s ≡ All m → {at : ℕ} {f g : Bool} → at ≡ parting_at (events_in (whole_of a)) (events_in (whole_of b))
+        {m : ℕ} → d ≡ Ok m → {at : ℕ} {f g : Bool} → at ≡ parting_at (events_in (whole_of a)) (events_in (whole_of b))
         → f ≡ ltb at (length a) → g ≡ ltb at (length b) → record { number = 0; differs = f || g; at = at } ≡ parted_of a b
     unfolding counted_of parted_of
     compared {m} h {at} {f} {g} place left rest = by_both (whole_of a) (whole_of b) refl refl first second place
       where
         by_both :
-            (v w : Whole) → whole_of a ≡ v → whole_of b ≡ w → r ≡ count_in v → s ≡ count_in w → at ≡ parting_at (events_in v) (events_in w)
+            (v w : Whole) → whole_of a ≡ v → whole_of b ≡ w → c ≡ count_in v → d ≡ count_in w → at ≡ parting_at (events_in v) (events_in w)
             → record { number = 0; differs = f || g; at = at } ≡ parted_by v w b
-        by_both (all xs) (all ys) p q d e i =
+        by_both (all xs) (all ys) p q u e i =
             let x = (whole_reads a xs).0 p in
             let y = (whole_reads b ys).0 q in
             rw (left, rest, i, sign_is a b xs ys x y)
-        by_both (all xs) (broken es j) p q d e i = absurd (not_both m j (sym h ∙ e))
-        by_both (broken es j) w p q d e i = absurd (not_both n j (sym read ∙ d))
+        by_both (all xs) (broken es j) p q u e i = cc
+        by_both (broken es j) w p q u e i = cc
 
 -- the tail that code hands back: from a place within the log, or nothing
 pub none_past : (l : List ℕ) (at : ℕ) → length l < at → part l (length l) ≡ drop at l

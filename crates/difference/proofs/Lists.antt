@@ -36,15 +36,22 @@ same_is d e h =
     let y : second_in d ≡ second_in e = eqb-true (second_in d) (second_in e) (and_right (eqb (kind_in d) (kind_in e) && eqb (first_in d) (first_in e)) _ h) in
     sym (again d) ∙ rw (k, x, y) (again e)
 
-same_self : (e : Event) → same_event e e ≡ true
+pub same_self : (e : Event) → same_event e e ≡ true
 unfolding same_event
 same_self e = rw (eq-eqb (kind_in e) (kind_in e) refl, eq-eqb (first_in e) (first_in e) refl, eq-eqb (second_in e) (second_in e) refl)
 
 no_false : true ≡ false → ⊥
 no_false e = let z : ◌≡◌ {A = ℕ} 0 1 = cc in omega arith
 
-not_same : (d e : Event) → same_event d e ≡ false → d ≡ e → ⊥
-not_same d e h q = no_false (sym (same_self d) ∙ ap (same_event d) q ∙ h)
+apart : (d e : Event) → same_event d e ≡ false → d ≡ e → ⊥
+apart d e h q = no_false (sym (same_self d) ∙ ap (same_event d) q ∙ h)
+
+pub not_same : (d e : Event) → (d ≡ e → ⊥) → same_event d e ≡ false
+not_same d e differ = told (same_event d e) refl
+  where
+    told : (t : Bool) → same_event d e ≡ t → t ≡ false
+    told true h = absurd (differ (same_is d e h))
+    told false h = refl
 
 pub no_cons : (x : Event) (xs : List Event) → x ∷ xs ≡ [] → ⊥
 no_cons x xs e = let z = ap length e in omega arith
@@ -88,9 +95,9 @@ split_cons x y xs ys front false e s =
     record {
       first = refl;
       second = refl;
-      apart = not_same x y e;
+      apart = apart x y e;
       to = λ h. absurd (some_left x xs (y ∷ ys) h);
-      back = λ h. absurd (not_same x y e (head_is x y xs ys h));
+      back = λ h. absurd (apart x y e (head_is x y xs ys h));
     }
 
 split_by : (xs ys : List Event) → Split xs ys (front_of xs ys) (drop (length (front_of xs ys)) xs) (drop (length (front_of xs ys)) ys)

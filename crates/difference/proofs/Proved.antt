@@ -2,7 +2,7 @@
 use Prim.Native.Nat.{ℕ}
 use native.Mathlib.Omega.{arith}
 use mathlib.Core.Path.{◌≡◌, refl, sym, ap, ◌∙◌}
-use mathlib.Core.Logic.{⊎_elim}
+use mathlib.Core.Logic.{⊎_elim, ◌⊎◌}
 use mathlib.Core.List.{List, [], ◌∷◌, ◌++◌, append-nil}
 use mathlib.Core.Bool.{Bool, false}
 use lib.ListN.{length, get_or, drop, length-drop, drop_of_length-le}
@@ -11,6 +11,9 @@ use borrow.Author.Tests.{ltb-false}
 use Rattle.laws.specs.Words.{number_at, little}
 use Rattle.laws.specs.Lists.{each}
 use Rattle.laws.specs.Lending.{size}
+use Rattle.laws.specs.Refusals.{refusal_number}
+use Rattle.laws.specs.declared.refusals.Refusal.{Refusal}
+use Rattle.laws.specs.declared.refusals.Refusal.TheVariants.{Malformed, Outside}
 use Rattle.laws.proofs.Choice.{or_right}
 use Rattle.registers.specs.Banks.{is_logged}
 use Rattle.definition.specs.Logs.{event_bytes, bytes_of}
@@ -32,7 +35,7 @@ pub whole_is_reads : promised.WholeIsReads
 whole_is_reads = whole_reads
 
 pub broken_is_refused : promised.BrokenIsRefused
-broken_is_refused l es k = (whole_broken l es k, (λ h. let b = (whole_broken l es k).0 h in rw b.refused at (within b.rest)))
+broken_is_refused l es r = (whole_broken l es r, (λ h. let b = (whole_broken l es r).0 h in rw b.refused at (within b.rest)))
 
 -- of logs that read whole: the answer, by their events
 module _ (a b : List ℕ) (xs ys : List Event) (r : Reads a xs) (q : Reads b ys) where
@@ -150,16 +153,16 @@ same_log a xs r =
     (by_fields (parted_of a a) p.number sign place, none)
 
 -- a refused answer's part begins at the end
-none_behind : (a b : List ℕ) (k : ℕ) → parted_of a b ≡ refused k b → parting_of a b ≡ []
+none_behind : (a b : List ℕ) (r : Refusal) → parted_of a b ≡ refused r b → parting_of a b ≡ []
 unfolding parting_of
-none_behind a b k e = rw e (drop_of_length-le b {i = length b} (omega arith))
+none_behind a b r e = rw e (drop_of_length-le b {i = length b} (omega arith))
 
 module _ (a b : List ℕ) where
-  first_broken : (es : List Event) (k : ℕ) → Broken a es k → parted_of a b ≡ refused k b
+  first_broken : (es : List Event) (k : Refusal) → Broken a es k → parted_of a b ≡ refused k b
   unfolding parted_of
   first_broken es k h = rw (broken_whole a es k h)
 
-  second_broken : (xs es : List Event) (k : ℕ) → Reads a xs → Broken b es k → parted_of a b ≡ refused k b
+  second_broken : (xs es : List Event) (k : Refusal) → Reads a xs → Broken b es k → parted_of a b ≡ refused k b
   unfolding parted_of
   second_broken xs es k r h = rw (reads_whole a xs r, broken_whole b es k h)
 
@@ -170,8 +173,11 @@ module _ (a b : List ℕ) where
   unfolding parted_of
   number_reads h = by_both (whole_of a) (whole_of b) refl refl h
     where
-      not_refused : (l : List ℕ) (es : List Event) (k : ℕ) → whole_of l ≡ broken es k → k ≡ 0 → ⊥
-      not_refused l es k e z = ⊎_elim (λ x. omega arith) (λ x. omega arith) ((broken_is_refused l es k).1 e)
+      numbered : (r : Refusal) → (r ≡ Malformed) ⊎ (r ≡ Outside) → refusal_number r ≡ 0 → ⊥
+      numbered r w z = ⊎_elim (λ e. let n = ap refusal_number e in omega arith) (λ e. let n = ap refusal_number e in omega arith) w
+
+      not_refused : (l : List ℕ) (es : List Event) (r : Refusal) → whole_of l ≡ broken es r → refusal_number r ≡ 0 → ⊥
+      not_refused l es r e z = numbered r ((broken_is_refused l es r).1 e) z
 
       by_both : (v w : Whole) → whole_of a ≡ v → whole_of b ≡ w → (parted_by v w b).number ≡ 0 → Both
       by_both (broken es k) w p q z = absurd (not_refused a es k p z)

@@ -2,41 +2,19 @@
 use Prim.Native.Nat.{ℕ, ◌+◌}
 use native.Mathlib.Omega.{arith}
 use mathlib.Core.Path.{◌≡◌, refl, sym, ap, ◌∙◌}
-use mathlib.Core.Logic.{⊎_elim, ◌⊎◌}
 use mathlib.Core.Bool.{true, false}
 use mathlib.Core.List.{List, [], ◌∷◌}
 use lib.ListN.{length, drop}
-use denote.Enum.Declared.{tag_of, declared}
-use Rattle.definition.specs.contracts.Reading.{enum}
 use Rattle.definition.specs.Logs.{event_bytes}
 use Rattle.definition.specs.Readings.{read_front, read_at, placed}
 use Rattle.definition.specs.declared.Event.{Event}
 use Rattle.definition.specs.declared.Reading.{Reading}
 use Rattle.definition.specs.declared.Reading.TheVariants.{Found, Bad, Finished}
-use Rattle.event.specs.Wholes.{Whole, all, broken, events_in, in_front, onward, whole_of}
+use Rattle.event.specs.Wholes.{events_in, whole_of}
 use Rattle.event.proofs.Cuts.{event_long, size_cons, size_nil}
-use Rattle.event.proofs.Walks.{whole_at, turn}
+use Rattle.event.proofs.Walks.{events_at, found_at, stops_at}
 use Rattle.difference.specs.Partings.{same_event, front_of, parting_at}
 use Rattle.difference.proofs.Lists.{same_is}
-
--- the events of a log from a place on, by what is read there
-abbrev pub events_at : List ℕ → ℕ → List Event
-events_at l at = events_in (whole_at l at)
-
-in_front_lem : (e : Event) (w : Whole) → events_in (in_front e w) ≡ e ∷ events_in w
-in_front_lem e (all es) = refl
-in_front_lem e (broken es k) = refl
-
-found : (l : List ℕ) (at : ℕ) {e : Event} {next : ℕ} → read_at l at ≡ Found e next → events_at l at ≡ e ∷ events_at l next
-found l at {e} {next} f = ap events_in (turn l at) ∙ rw f (in_front_lem e (whole_at l next))
-
-none : (r : Reading) (rest : ℕ → Whole) → (tag_of (declared enum) r ≡ 1) ⊎ (tag_of (declared enum) r ≡ 2) → events_in (onward r rest) ≡ []
-none (Found e n) rest t = absurd (⊎_elim (λ x. omega arith) (λ x. omega arith) t)
-none (Bad k) rest t = refl
-none Finished rest t = refl
-
-stops : (l : List ℕ) (at : ℕ) (r : Reading) → r ≡ read_at l at → (tag_of (declared enum) r ≡ 1) ⊎ (tag_of (declared enum) r ≡ 2) → events_at l at ≡ []
-stops l at r e t = ap events_in (turn l at) ∙ rw (← e) (none r (whole_at l) t)
 
 -- an event ends its own bytes behind its place
 placed_long : (l : List ℕ) (at : ℕ) (r : Reading) → read_front (drop at l) ≡ r → {e : Event} {next : ℕ} → placed at r ≡ Found e next → next ≡ at + length (event_bytes e)
@@ -60,24 +38,24 @@ module _ (a b : List ℕ) (at : ℕ) where
   begins e = rw e (omega arith)
 
   -- nothing is left of the first, or of the second
-  pub first_stops : (r : Reading) → r ≡ read_at a at → (tag_of (declared enum) r ≡ 1) ⊎ (tag_of (declared enum) r ≡ 2) → ahead a b at ≡ at
+  pub first_stops : (r : Reading) → r ≡ read_at a at → ((d : Event) (k : ℕ) → r ≡ Found d k → ⊥) → ahead a b at ≡ at
   unfolding parting_at front_of
-  first_stops r e t = rw (stops a at r e t, size_nil) (omega arith)
+  first_stops r e t = rw (stops_at a at r e t, size_nil) (omega arith)
 
   module _ (d : Event) {n : ℕ} (first : read_at a at ≡ Found d n) where
-    pub second_stops : (r : Reading) → r ≡ read_at b at → (tag_of (declared enum) r ≡ 1) ⊎ (tag_of (declared enum) r ≡ 2) → ahead a b at ≡ at
+    pub second_stops : (r : Reading) → r ≡ read_at b at → ((d : Event) (k : ℕ) → r ≡ Found d k → ⊥) → ahead a b at ≡ at
     unfolding parting_at front_of
-    second_stops r e t = rw (found a at first, stops b at r e t, size_nil) (omega arith)
+    second_stops r e t = rw (found_at a at first, stops_at b at r e t, size_nil) (omega arith)
 
     module _ (e : Event) {m : ℕ} (second : read_at b at ≡ Found e m) where
       -- two events that differ, and two that do not
       pub parts : same_event d e ≡ false → ahead a b at ≡ at
       unfolding parting_at front_of
-      parts h = rw (found a at first, found b at second, h, size_nil) (omega arith)
+      parts h = rw (found_at a at first, found_at b at second, h, size_nil) (omega arith)
 
       pub both : same_event d e ≡ true → ahead a b at ≡ ahead a b m
       unfolding parting_at front_of
       both h =
           let i : n ≡ m = long_at a at first ∙ ap (λ (x : Event). at + length (event_bytes x)) (same_is d e h) ∙ sym (long_at b at second) in
           let j = long_at b at second in
-          rw (found a at first, found b at second, h, i, size_cons e (front_of (events_at a m) (events_at b m))) (omega arith)
+          rw (found_at a at first, found_at b at second, h, i, size_cons e (front_of (events_at a m) (events_at b m))) (omega arith)

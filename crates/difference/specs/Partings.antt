@@ -1,6 +1,8 @@
 -- Where two logs part: document 02's T-13. First over lists of events, then over bytes.
 use Rattle.std.specs.Prelude.{ℕ, List, [], ◌∷◌, Bool, false, cond, ◌&&◌, ◌||◌, length, drop, eqb, ltb}
 use Rattle.laws.specs.Lending.{size}
+use Rattle.laws.specs.Refusals.{refusal_number}
+use Rattle.laws.specs.declared.refusals.Refusal.{Refusal}
 use Rattle.definition.specs.Logs.{event_bytes}
 use Rattle.definition.specs.declared.Event.{Event}
 use Rattle.definition.specs.declared.Event.TheVariants.{RegisterRead, RegisterWrite, MemoryRead, MemoryWrite, UnknownRead, UnknownWrite}
@@ -58,13 +60,13 @@ unfoldable pub parting_at : List Event → List Event → ℕ
 parting_at xs ys = size event_bytes (front_of xs ys)
 
 -- a refused answer: no sign, and an empty part, which begins at the end of the second log
-abbrev pub refused : ℕ → List ℕ → Parted
-refused k b = record { number = k; differs = false; at = length b }
+abbrev pub refused : Refusal → List ℕ → Parted
+refused r b = record { number = refusal_number r; differs = false; at = length b }
 
 -- the first log's refusal, then the second's; only logs that read whole are compared
 abbrev pub parted_by : Whole → Whole → List ℕ → Parted
-parted_by (broken es k) w b = refused k b
-parted_by (all xs) (broken es k) b = refused k b
+parted_by (broken es r) w b = refused r b
+parted_by (all xs) (broken es r) b = refused r b
 parted_by (all xs) (all ys) b = record { number = 0; differs = differ xs ys; at = parting_at xs ys }
 
 unfoldable pub parted_of : List ℕ → List ℕ → Parted

@@ -1,6 +1,8 @@
 -- WHAT IS PROMISED of where two logs part, each statement after its sentence. proofs/Proved.antt proves them all;
 -- nothing is assumed.
 use Rattle.std.specs.Prelude.{ℕ, ◌≤◌, ◌≡◌, ◌↔◌, ◌⊎◌, List, [], ◌∷◌, ◌++◌, map, false, length, take, drop}
+use Rattle.laws.specs.declared.refusals.Refusal.{Refusal}
+use Rattle.laws.specs.declared.refusals.Refusal.TheVariants.{Malformed, Outside}
 use Rattle.definition.specs.Readings.{Reads}
 use Rattle.definition.specs.declared.Event.{Event}
 use Rattle.event.specs.Held.{Bytes}
@@ -15,8 +17,8 @@ WholeIsReads = (l : List ℕ) (es : List Event) → (whole_of l ≡ all es) ↔ 
 -- A log's refusal is that of its first event that does not read: behind a front that reads, 1 or 2.
 abbrev pub BrokenIsRefused : Type 0
 BrokenIsRefused =
-    (l : List ℕ) (es : List Event) (k : ℕ)
-    → ((whole_of l ≡ broken es k) ↔ Broken l es k) × (whole_of l ≡ broken es k → (k ≡ 1) ⊎ (k ≡ 2))
+    (l : List ℕ) (es : List Event) (r : Refusal)
+    → ((whole_of l ≡ broken es r) ↔ Broken l es r) × (whole_of l ≡ broken es r → (r ≡ Malformed) ⊎ (r ≡ Outside))
 
 -- where both go on, the next events differ
 abbrev pub Apart : List Event → List Event → Type 0
@@ -69,9 +71,9 @@ SameLog =
 -- sign is 0 and the part is empty. A log that reads whole is never refused.
 abbrev pub BrokenLogs : Type 0
 BrokenLogs =
-    (a b : List ℕ) (es xs : List Event) (k : ℕ)
-    → (Broken a es k → (parted_of a b ≡ refused k b) × (parting_of a b ≡ []))
-    × (Reads a xs → Broken b es k → (parted_of a b ≡ refused k b) × (parting_of a b ≡ []))
+    (a b : List ℕ) (es xs : List Event) (r : Refusal)
+    → (Broken a es r → (parted_of a b ≡ refused r b) × (parting_of a b ≡ []))
+    × (Reads a xs → Broken b es r → (parted_of a b ≡ refused r b) × (parting_of a b ≡ []))
     × (((parted_of a b).number ≡ 0) ↔ ((ds : List Event) × (es : List Event) × Reads a ds × Reads b es))
 
 -- TABLE. Rows for each sentence of the request.

@@ -1,10 +1,9 @@
 // What is answered of two logs: by value, and the part of the second log itself.
 ghost use Rattle.std.specs.Prelude.{◌≡◌, ◌||◌, length, drop, ltb};
-ghost use Rattle.event.specs.Counts.{counted_number};
 ghost use Rattle.difference.specs.Partings.{refused, parted_of, parting_of};
 
 use crate::walk::shared_end;
-use event::Counted;
+use laws::Refusal;
 
 // The refusal number or 0, whether the logs differ, and where the part of the second log begins.
 #[derive(Clone, Copy)]
@@ -15,17 +14,16 @@ pub struct Parted {
 }
 
 // Both logs are read whole before they are compared.
+#[tactic(auto, using(crate::proofs::Compared::first_refused, crate::proofs::Compared::compared))]
 pub fn part_logs(first: &[u8], second: &[u8]) -> Parted
     ensures { result ≡ parted_of first.now second.now }
 {
-    let read = event::count_events(first);
-    let Counted::All(_) = read else {
-        return refused(read, second);
-    };
-    let read = event::count_events(second);
-    let Counted::All(_) = read else {
-        return refused(read, second);
-    };
+    if let Err(refusal) = event::count_events(first) {
+        return refused(refusal, second);
+    }
+    if let Err(refusal) = event::count_events(second) {
+        return refused(refusal, second);
+    }
     let at = shared_end(first, second);
     Parted {
         number: 0,
@@ -35,6 +33,7 @@ pub fn part_logs(first: &[u8], second: &[u8]) -> Parted
 }
 
 // The part of the second log: it lives as long as that log does, however long the first does.
+#[tactic(auto, using(crate::proofs::Compared::tail_is))]
 pub fn parting<'a, 'b>(first: &'a [u8], second: &'b [u8]) -> &'b [u8]
     ensures { result.now ≡ parting_of first.now second.now }
 {
@@ -52,11 +51,11 @@ pub fn tail(log: &[u8], parted: Parted) -> &[u8]
     &log[at..]
 }
 
-fn refused(read: Counted, second: &[u8]) -> Parted
-    ensures { result ≡ refused (counted_number read) second.now }
+fn refused(refusal: Refusal, second: &[u8]) -> Parted
+    ensures { result ≡ refused refusal second.now }
 {
     Parted {
-        number: read.number(),
+        number: refusal.into(),
         differs: false,
         at: second.len(),
     }

@@ -1,7 +1,7 @@
 -- What the front of a log holds, by the tests that code makes; an event that was found lies within the log. Assumes nothing.
 use Prim.Native.Nat.{ℕ, ◌+◌, ◌-◌, ◌≤◌, ◌<◌}
 use native.Mathlib.Omega.{arith}
-use mathlib.Core.Path.{◌≡◌, refl, sym, ◌∙◌}
+use mathlib.Core.Path.{◌≡◌, refl, sym, ◌∙◌, subst}
 use mathlib.Core.Bool.{Bool, true, cond, ◌||◌}
 use mathlib.Core.Logic.{◌⊎◌, inl, inr}
 use mathlib.Core.List.{List, [], ◌∷◌}
@@ -9,6 +9,7 @@ use lib.ListN.{length, get_or, drop, length-drop, drop_of_length-le}
 use lib.Dec.{ltb, eqb}
 use borrow.Author.Tests.{eq-eqb, eqb-false, ne_eqb, lt-ltb, le-ltb, ltb-false}
 use Rattle.laws.specs.Words.{number_at}
+use Rattle.laws.specs.declared.refusals.Refusal.TheVariants.{Malformed, Outside}
 use Rattle.registers.specs.Banks.{reg}
 use Rattle.laws.proofs.Choice.{either, or_left, or_right}
 use Rattle.laws.proofs.Lending.{part, part_is}
@@ -37,12 +38,12 @@ unfolding read_front
 front_empty [] h = refl
 front_empty (k ∷ l) h = absurd (omega arith)
 
-pub front_unknown : (l : List ℕ) {b : ℕ} → b ≡ body l → b ≡ 0 → 0 < length l → read_front l ≡ Bad 1
+pub front_unknown : (l : List ℕ) {b : ℕ} → b ≡ body l → b ≡ 0 → 0 < length l → read_front l ≡ Bad Malformed
 unfolding read_front
 front_unknown [] is z h = absurd (omega arith)
 front_unknown (k ∷ l) is z h = rw (eq-eqb (body_of k) 0 (sym is ∙ z))
 
-pub front_cut : (l : List ℕ) {b : ℕ} → b ≡ body l → (b ≡ 0 → ⊥) → 0 < length l → length l - 1 < b → read_front l ≡ Bad 1
+pub front_cut : (l : List ℕ) {b : ℕ} → b ≡ body l → (b ≡ 0 → ⊥) → 0 < length l → length l - 1 < b → read_front l ≡ Bad Malformed
 unfolding read_front
 front_cut [] is ne h m = absurd (omega arith)
 front_cut (k ∷ l) {b} is ne h m = let n : length l < b = omega arith in rw (← is, ne_eqb b 0 ne, lt-ltb (length l) b n)
@@ -50,7 +51,7 @@ front_cut (k ∷ l) {b} is ne h m = let n : length l < b = omega arith in rw (�
 pub front_whole :
     (l : List ℕ) {b : ℕ} {e : Event} {good : Bool}
     → b ≡ body l → (b ≡ 0 → ⊥) → b < length l → e ≡ front_event l → good ≡ is_event e
-    → cond good (Found e (1 + b)) (Bad 2) ≡ read_front l
+    → cond good (Found e (1 + b)) (Bad Outside) ≡ read_front l
 unfolding read_front
 front_whole [] is ne m p g = absurd (omega arith)
 front_whole (k ∷ l) {b} is ne m p g =
@@ -64,10 +65,10 @@ pub record Holds (l : List ℕ) (e : Event) (n : ℕ) : Type 0 where
   pub event : e ≡ front_event l
   pub good : is_event e ≡ true
 
--- what an answer says of the bytes: a refusal is 1 or 2, and a log is finished where none is left
+-- what an answer says of the bytes: a refusal is one of two, and a log is finished where none is left
 abbrev pub Within : List ℕ → Reading → Type 0
 Within l (Found e n) = Holds l e n
-Within l (Bad k) = (k ≡ 1) ⊎ (k ≡ 2)
+Within l (Bad r) = (r ≡ Malformed) ⊎ (r ≡ Outside)
 Within l Finished = length l ≡ 0
 
 pub within : (l : List ℕ) → Within l (read_front l)
@@ -90,17 +91,36 @@ finds k l known whole good = sym (front_whole (k ∷ l) refl known (omega arith)
 -- reading at a place: an event ends after it, within the log
 abbrev pub Moves : List ℕ → ℕ → Reading → Type 0
 Moves l at (Found e n) = (at < n) × (n ≤ length l)
-Moves l at (Bad k) = Unit
+Moves l at (Bad r) = Unit
 Moves l at Finished = length l ≤ at
 
 moved : (l : List ℕ) (at : ℕ) (r : Reading) → Within (drop at l) r → Moves l at (placed at r)
 moved l at (Found e n) w = let s = length-drop at l in (omega (arith, w.long), omega (arith, w.long, w.inside))
-moved l at (Bad k) w = tt
+moved l at (Bad r) w = tt
 moved l at Finished w = let s = length-drop at l in omega arith
 
 pub goes_on_lem : (l : List ℕ) (at : ℕ) → Moves l at (read_at l at)
 unfolding read_at
 goes_on_lem l at = moved l at (read_front (drop at l)) (within (drop at l))
+
+-- the event that was read at a place ends further on, within the log
+pub further : (l : List ℕ) (at : ℕ) {r : Reading} → r ≡ read_at l at → {e : Event} {n : ℕ} → r ≡ Found e n → (at < n) × (n ≤ length l)
+further l at read {e} {n} found = subst (Moves l at) (sym read ∙ found) (goes_on_lem l at)
+
+-- and is one that a log may hold
+abbrev Good : Reading → Type 0
+Good (Found e n) = is_event e ≡ true
+Good (Bad r) = Unit
+Good Finished = Unit
+
+good : (l : List ℕ) (at : ℕ) (r : Reading) → Within l r → Good (placed at r)
+good l at (Found e n) w = w.good
+good l at (Bad r) w = tt
+good l at Finished w = tt
+
+pub read_good : (l : List ℕ) (at : ℕ) {e : Event} {n : ℕ} → read_at l at ≡ Found e n → is_event e ≡ true
+unfolding read_at
+read_good l at f = subst Good f (good (drop at l) at (read_front (drop at l)) (within (drop at l)))
 
 -- at or past the end
 pub finished : (l : List ℕ) (at : ℕ) → length l ≤ at → read_at l at ≡ Finished

@@ -7,13 +7,14 @@ use mathlib.Core.Logic.{◌↔◌}
 use mathlib.Core.List.{List, [], ◌∷◌, ◌++◌, append_assoc}
 use lib.ListN.{length, take, drop, length-drop, length-take, take-append-drop}
 use lib.Seq.{drop-append-le, drop_at}
+use Rattle.std.specs.Prelude.{Ok}
+use Rattle.laws.specs.declared.refusals.Refusal.{Refusal}
 use Rattle.definition.specs.declared.Event.{Event}
 use Rattle.definition.specs.declared.Reading.{Reading}
 use Rattle.definition.specs.declared.Reading.TheVariants.{Found, Bad, Finished}
 use Rattle.definition.specs.Readings.{read_front, Reads, end, next}
 use Rattle.event.specs.Wholes.{Whole, all, broken, in_front, onward, whole_of, Broken}
 use Rattle.event.specs.Counts.{count_in, counted_of}
-use Rattle.event.specs.declared.walk.Counted.TheVariants.{All}
 use Rattle.event.proofs.Fronts.{Within, within, holds, front_empty}
 use Rattle.event.proofs.Stable.{front_stable, front_shrinks}
 use Rattle.event.proofs.Walks.{unrolled}
@@ -23,13 +24,13 @@ pub reads_whole : (l : List ℕ) (es : List Event) → Reads l es → whole_of l
 reads_whole l es end = unrolled [] ∙ rw (front_empty [] refl)
 reads_whole l es (next {e = e} {es = rest} n f r) = unrolled l ∙ rw f (ap (in_front e) (reads_whole (drop n l) rest r))
 
-behind_reads : (a b : List ℕ) (es : List Event) (k : ℕ) → Reads a es → read_front b ≡ Bad k → whole_of (a ++ b) ≡ broken es k
+behind_reads : (a b : List ℕ) (es : List Event) (k : Refusal) → Reads a es → read_front b ≡ Bad k → whole_of (a ++ b) ≡ broken es k
 behind_reads a b es k end f = unrolled b ∙ rw f
 behind_reads a b es k (next {e = e} {es = rest} n g r) f =
     let c = holds a g in
     unrolled (a ++ b) ∙ rw (front_stable a b g, drop-append-le n a b c.inside) (ap (in_front e) (behind_reads (drop n a) b rest k r f))
 
-pub broken_whole : (l : List ℕ) (es : List Event) (k : ℕ) → Broken l es k → whole_of l ≡ broken es k
+pub broken_whole : (l : List ℕ) (es : List Event) (k : Refusal) → Broken l es k → whole_of l ≡ broken es k
 broken_whole l es k h = rw h.whole (behind_reads h.front h.rest es k h.before h.refused)
 
 -- and back: what the function says of a log
@@ -74,10 +75,10 @@ says l = says_by (length l) l (omega arith)
 pub whole_reads : (l : List ℕ) (es : List Event) → (whole_of l ≡ all es) ↔ Reads l es
 whole_reads l es = ((λ h. rw h at (says l)), (λ r. reads_whole l es r))
 
-pub whole_broken : (l : List ℕ) (es : List Event) (k : ℕ) → (whole_of l ≡ broken es k) ↔ Broken l es k
+pub whole_broken : (l : List ℕ) (es : List Event) (k : Refusal) → (whole_of l ≡ broken es k) ↔ Broken l es k
 whole_broken l es k = ((λ h. rw h at (says l)), (λ b. broken_whole l es k b))
 
 -- a log that reads whole has as many events as it reads as
-pub reads_count : (l : List ℕ) (es : List Event) → Reads l es → counted_of l ≡ All (length es)
+pub reads_count : (l : List ℕ) (es : List Event) → Reads l es → counted_of l ≡ Ok (length es)
 unfolding counted_of
 reads_count l es r = ap count_in (reads_whole l es r)

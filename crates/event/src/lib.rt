@@ -6,5 +6,5 @@ mod walk; // walk.rt: a whole log, event by event
 mod writer; // writer.rt: one event
 
 pub use reader::{read_event, read_front};
-pub use walk::{Counted, count_events};
+pub use walk::count_events;
 pub use writer::{put_memory, put_register};

@@ -4,9 +4,11 @@ ghost use Rattle.definition.specs.Readings.{body_of, front_event, is_event, is_s
 ghost use Rattle.registers.specs.Banks.{reg};
 
 use definition::{Event, Reading};
+use laws::Refusal;
 use registers::RegSpec;
 
-// The event at a place and the place after it, a refusal number, or the end: at or past the end of the log.
+// The event at a place and the place after it, a refusal, or the end: at or past the end of the log.
+#[tactic(auto, using(crate::proofs::Fronts::finished))]
 pub fn read_event(log: &[u8], at: usize) -> Reading
     ensures { result ≡ read_at log.now at }
 {
@@ -16,12 +18,13 @@ pub fn read_event(log: &[u8], at: usize) -> Reading
     let r = read_front(&log[at..]);
     match r {
         Reading::Found(e, n) => Reading::Found(e, at + n),
-        Reading::Bad(k) => Reading::Bad(k),
+        Reading::Bad(refusal) => Reading::Bad(refusal),
         Reading::Finished => Reading::Finished,
     }
 }
 
 // The same at the front, with the event's length in place of the place after it.
+#[tactic(auto, using(crate::proofs::Fronts::front_empty, crate::proofs::Fronts::front_unknown, crate::proofs::Fronts::front_cut))]
 pub fn read_front(log: &[u8]) -> Reading
     ensures { result ≡ read_front log.now }
 {
@@ -30,16 +33,16 @@ pub fn read_front(log: &[u8]) -> Reading
     }
     let body = body_of(log[0]);
     if body == 0 {
-        return Reading::Bad(1);
+        return Reading::Bad(Refusal::Malformed);
     }
     if log.len() - 1 < body {
-        return Reading::Bad(1);
+        return Reading::Bad(Refusal::Malformed);
     }
     let e = front_event(log);
     if is_event(e) {
         Reading::Found(e, 1 + body)
     } else {
-        Reading::Bad(2)
+        Reading::Bad(Refusal::Outside)
     }
 }
 
@@ -56,6 +59,7 @@ fn body_of(kind: u8) -> usize
 }
 
 // The event at the front, where its body is whole.
+#[tactic(auto, unfolding(definition::specs::Readings::body_of, definition::specs::Readings::front_event))]
 fn front_event(log: &[u8]) -> Event
     requires { body_of (get_or log.now 0 0) < length log.now }
     ensures { result ≡ front_event log.now }
@@ -82,6 +86,7 @@ fn register_at(log: &[u8]) -> RegSpec
     }
 }
 
+#[tactic(auto, unfolding(definition::specs::Readings::is_event))]
 fn is_event(e: Event) -> bool
     ensures { result ≡ is_event e }
 {
@@ -98,5 +103,5 @@ fn is_event(e: Event) -> bool
 fn is_size(n: u8) -> bool
     ensures { result ≡ is_size n }
 {
-    1 <= n && n <= 64
+    (1..=64).contains(&n)
 }

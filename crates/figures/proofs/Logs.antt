@@ -2,7 +2,6 @@
 use Prim.Native.Nat.{ℕ, ◌+◌, ◌*◌, ◌^◌, ◌≤◌, ◌<◌}
 use native.Mathlib.Omega.{arith}
 use mathlib.Core.Path.{◌≡◌, refl, ap, ◌∙◌}
-use mathlib.Core.Logic.{⊎_elim}
 use mathlib.Core.Bool.{Bool, true, false, cond}
 use mathlib.Core.List.{List, [], ◌∷◌}
 use lib.ListN.{length, drop, length-drop}
@@ -10,14 +9,16 @@ use lib.Dec.{eqb, leb}
 use borrow.Author.Tests.{eq-eqb, ne_eqb, eqb-true, leb-true, le-leb}
 use Rattle.laws.specs.Lending.{size}
 use Rattle.laws.proofs.Choice.{and_left, and_right}
+use Rattle.laws.specs.Refusals.{refused_by}
+use Rattle.totals.proofs.Adding.{numbered}
 use Rattle.definition.specs.Logs.{event_bytes}
 use Rattle.definition.specs.Readings.{Reads, end, next}
 use Rattle.definition.specs.declared.Event.{Event}
 use Rattle.event.specs.Wholes.{Whole, all, broken, whole_of, events_in}
-use Rattle.event.specs.Counts.{count_in, counted_of, counted_number}
-use Rattle.event.proofs.Fronts.{holds, within}
+use Rattle.event.specs.Counts.{count_in, counted_of}
+use Rattle.event.proofs.Fronts.{holds}
 use Rattle.event.proofs.Cuts.{event_long, size_cons, size_nil}
-use Rattle.event.proofs.Wholes.{whole_reads, whole_broken, reads_whole, reads_count}
+use Rattle.event.proofs.Wholes.{whole_reads, reads_whole, reads_count}
 use Rattle.watching.specs.declared.verdicts.Variable.{Variable}
 use Rattle.totals.specs.Sheets.{logs_word, most_log_bytes, additions, log_adds}
 use Rattle.figures.specs.Counts.{is_good, events_of, sum_of}
@@ -33,33 +34,31 @@ reads_long l es (next {e = e} {es = rest} n f r) =
     omega (arith, size_cons e rest, event_long l e n f, reads_long (drop n l) rest r, h.inside)
 
 -- a log that reads whole
-pub good_reads : (l : List ℕ) → counted_number (counted_of l) ≡ 0 → Reads l (events_of l)
+pub good_reads : (l : List ℕ) → refused_by (counted_of l) ≡ 0 → Reads l (events_of l)
 unfolding counted_of
 good_reads l h = go (whole_of l) refl h
   where
-    go : (w : Whole) → whole_of l ≡ w → counted_number (count_in w) ≡ 0 → Reads l (events_of l)
+    go : (w : Whole) → whole_of l ≡ w → refused_by (count_in w) ≡ 0 → Reads l (events_of l)
     go (all es) e z = rw e ((whole_reads l es).0 e)
-    go (broken es k) e z =
-        let b = (whole_broken l es k).0 e in
-        absurd (⊎_elim (λ x. omega arith) (λ x. omega arith) (rw b.refused at (within b.rest)))
+    go (broken es r) e z = absurd (numbered r z)
 
 pub reads_events : (l : List ℕ) (es : List Event) → Reads l es → events_of l ≡ es
 reads_events l es r = ap events_in (reads_whole l es r)
 
-pub reads_number : (l : List ℕ) (es : List Event) → Reads l es → counted_number (counted_of l) ≡ 0
-reads_number l es r = ap counted_number (reads_count l es r)
+pub reads_number : (l : List ℕ) (es : List Event) → Reads l es → refused_by (counted_of l) ≡ 0
+reads_number l es r = ap refused_by (reads_count l es r)
 
 module _ (l : List ℕ) where
-  pub good_is : is_good l ≡ true → (length l ≤ most_log_bytes) × (counted_number (counted_of l) ≡ 0)
+  pub good_is : is_good l ≡ true → (length l ≤ most_log_bytes) × (refused_by (counted_of l) ≡ 0)
   unfolding is_good
   good_is h =
       let a = leb (length l) most_log_bytes in
-      let b = eqb (counted_number (counted_of l)) 0 in
-      (leb-true (length l) most_log_bytes (and_left a b h), eqb-true (counted_number (counted_of l)) 0 (and_right a b h))
+      let b = eqb (refused_by (counted_of l)) 0 in
+      (leb-true (length l) most_log_bytes (and_left a b h), eqb-true (refused_by (counted_of l)) 0 (and_right a b h))
 
-  pub is_good_lem : length l ≤ most_log_bytes → counted_number (counted_of l) ≡ 0 → is_good l ≡ true
+  pub is_good_lem : length l ≤ most_log_bytes → refused_by (counted_of l) ≡ 0 → is_good l ≡ true
   unfolding is_good
-  is_good_lem h k = rw (le-leb (length l) most_log_bytes h, eq-eqb (counted_number (counted_of l)) 0 k)
+  is_good_lem h k = rw (le-leb (length l) most_log_bytes h, eq-eqb (refused_by (counted_of l)) 0 k)
 
 module _ (v : Variable) (i : ℕ) where
   -- what a log adds to a word

@@ -2,7 +2,6 @@
 use Prim.Native.Nat.{ℕ, ◌+◌, ◌≤◌, ◌<◌}
 use native.Mathlib.Omega.{arith}
 use mathlib.Core.Path.{◌≡◌, refl, sym, ap, ◌∙◌}
-use mathlib.Core.Logic.{⊎_elim}
 use mathlib.Core.Bool.{Bool, true, false, cond}
 use mathlib.Core.List.{List, [], ◌∷◌, ◌++◌}
 use lib.ListN.{length, get_or, take, drop, set, length-set, length-take, length-drop}
@@ -14,13 +13,14 @@ use Rattle.laws.specs.Lending.{size}
 use Rattle.laws.specs.Tests.{any, is_in}
 use Rattle.laws.specs.Words.{number_at}
 use Rattle.registers.specs.Banks.{is_logged}
+use Rattle.laws.specs.Refusals.{refusal_number, refused_by}
+use Rattle.laws.specs.declared.refusals.Refusal.{Refusal}
 use Rattle.definition.specs.Logs.{event_bytes}
 use Rattle.definition.specs.Readings.{body_of, front_event, is_event, read_front, Reads}
 use Rattle.definition.specs.declared.Event.{Event}
 use Rattle.definition.specs.declared.Event.TheVariants.{RegisterRead, RegisterWrite, MemoryRead, MemoryWrite, UnknownRead, UnknownWrite}
 use Rattle.event.specs.Wholes.{Broken, read_from, whole_of}
-use Rattle.event.specs.Counts.{counted_of, counted_number}
-use Rattle.event.proofs.Fronts.{within}
+use Rattle.event.specs.Counts.{counted_of}
 use Rattle.event.proofs.Cuts.{reads_cut}
 use Rattle.event.proofs.Wholes.{broken_whole}
 use Rattle.watching.specs.Verdicts.{bytes_from, among, judged, store_verdict, verdict_of}
@@ -29,7 +29,7 @@ use Rattle.watching.specs.declared.verdicts.Variable.{Variable}
 use Rattle.watching.specs.declared.verdicts.Verdict.{Verdict}
 use Rattle.watching.specs.declared.verdicts.Verdict.TheVariants.{NoWrite, AddressUnknown, NoneTouched, PartTouched, WholeTouched}
 use Rattle.totals.specs.Sheets.{logs_word, sheet_words, most_logs, most_log_bytes, parts, additions, log_adds, raised, raised_by, refusal_of, taken_by, add_of, fresh, new_of, sheet_from, sheet_of}
-use Rattle.totals.proofs.Adding.{refused, taken_so}
+use Rattle.totals.proofs.Adding.{stays, numbered, taken_so}
 use Rattle.figures.specs.Counts.{is_good, good_in, taken_in, sum_of, part_write}
 use Rattle.figures.specs.Promises as promised
 use Rattle.figures.specs.Promises.{Watched, figure}
@@ -160,24 +160,24 @@ cut_adds_a_log v ls ms l xs ys x r h few =
 
 pub limit_first : promised.LimitFirst
 unfolding refusal_of
-limit_first w l h = sym (refused w l 10 (rw (le-leb most_logs (get_or w logs_word 0) h)) (λ z. omega arith))
+limit_first w l h = sym (stays w l {n = 10} (rw (le-leb most_logs (get_or w logs_word 0) h)) (λ z. omega arith))
 
 pub then_the_length : promised.ThenTheLength
 unfolding refusal_of
-then_the_length w l h k = sym (refused w l 2 (rw (lt-leb most_logs (get_or w logs_word 0) h, k)) (λ z. omega arith))
+then_the_length w l h k = sym (stays w l {n = 2} (rw (lt-leb most_logs (get_or w logs_word 0) h, k)) (λ z. omega arith))
 
 pub then_the_bytes : promised.ThenTheBytes
 unfolding refusal_of
-then_the_bytes w l h k m = sym (refused w l 2 (rw (lt-leb most_logs (get_or w logs_word 0) h, k, lt-ltb most_log_bytes (length l) m)) (λ z. omega arith))
+then_the_bytes w l h k m = sym (stays w l {n = 2} (rw (lt-leb most_logs (get_or w logs_word 0) h, k, lt-ltb most_log_bytes (length l) m)) (λ z. omega arith))
 
-broken_number : (l : List ℕ) (es : List Event) (k : ℕ) → Broken l es k → counted_number (counted_of l) ≡ k
+broken_number : (l : List ℕ) (es : List Event) (r : Refusal) → Broken l es r → refused_by (counted_of l) ≡ refusal_number r
 unfolding counted_of
-broken_number l es k b = rw (broken_whole l es k b)
+broken_number l es r b = rw (broken_whole l es r b)
 
 pub then_its_own : promised.ThenItsOwn
-then_its_own w l es k h n m b =
-    let own = taken_so w l (lt-leb most_logs (get_or w logs_word 0) h) n (le-ltb most_log_bytes (length l) m) ∙ broken_number l es k b in
-    sym (refused w l k (sym own) (λ z. ⊎_elim (λ y. omega arith) (λ y. omega arith) (rw b.refused at (within b.rest))))
+then_its_own w l es r h n m b =
+    let own = taken_so w l (lt-leb most_logs (get_or w logs_word 0) h) n (le-ltb most_log_bytes (length l) m) ∙ broken_number l es r b in
+    sym (stays w l (sym own) (numbered r))
 
 pub no_such_length : promised.NoSuchLength
 unfolding new_of

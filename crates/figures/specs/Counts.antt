@@ -1,17 +1,18 @@
 -- What a sheet's figures count, over the events of the logs that it takes.
 use Rattle.std.specs.Prelude.{ℕ, ◌+◌, List, [], ◌∷◌, Bool, cond, ◌&&◌, length, take, eqb, leb}
 use Rattle.laws.specs.Lists.{each}
+use Rattle.laws.specs.Refusals.{refused_by}
 use Rattle.definition.specs.declared.Event.{Event}
 use Rattle.definition.specs.declared.Event.TheVariants.{RegisterRead, RegisterWrite, MemoryRead, MemoryWrite, UnknownRead, UnknownWrite}
 use Rattle.event.specs.Wholes.{whole_of, events_in}
-use Rattle.event.specs.Counts.{counted_of, counted_number}
+use Rattle.event.specs.Counts.{counted_of}
 use Rattle.watching.specs.Verdicts.{store_verdict}
 use Rattle.watching.specs.declared.verdicts.Variable.{Variable}
 use Rattle.totals.specs.Sheets.{most_logs, most_log_bytes, parts}
 
 -- a log that is refused only by the limit: it is not too long, and it reads whole
 unfoldable pub is_good : List ℕ → Bool
-is_good l = leb (length l) most_log_bytes && eqb (counted_number (counted_of l)) 0
+is_good l = leb (length l) most_log_bytes && eqb (refused_by (counted_of l)) 0
 
 unfoldable pub good_in : List (List ℕ) → List (List ℕ)
 good_in [] = []

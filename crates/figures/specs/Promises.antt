@@ -2,6 +2,8 @@
 use Rattle.std.specs.Prelude.{ℕ, ◌+◌, ◌^◌, ◌≤◌, ◌<◌, ◌≡◌, true, false, length, get_or, take, drop, set}
 use mathlib.Core.List.{List, [], ◌∷◌, ◌++◌, map, Permᴰ}
 use Rattle.laws.specs.Lending.{size}
+use Rattle.laws.specs.Refusals.{refusal_number}
+use Rattle.laws.specs.declared.refusals.Refusal.{Refusal}
 use Rattle.definition.specs.Addresses.{word}
 use Rattle.definition.specs.Logs.{event_bytes}
 use Rattle.definition.specs.Readings.{Reads}
@@ -77,8 +79,9 @@ ThenTheBytes =
 
 abbrev pub ThenItsOwn : Type 0
 ThenItsOwn =
-    (w l : List ℕ) (es : List Event) (k : ℕ)
-    → get_or w logs_word 0 < most_logs → is_length (get_or w length_word 0) ≡ true → length l ≤ most_log_bytes → Broken l es k → add_of w l ≡ (k, w)
+    (w l : List ℕ) (es : List Event) (r : Refusal)
+    → get_or w logs_word 0 < most_logs → is_length (get_or w length_word 0) ≡ true → length l ≤ most_log_bytes → Broken l es r
+    → add_of w l ≡ (refusal_number r, w)
 
 -- A new sheet is refused 2 for a length that no variable has, and its words stay.
 abbrev pub NoSuchLength : Type 0

@@ -32,6 +32,7 @@ use Rattle.definition.specs.declared.Answer.{Answer}
 use Rattle.definition.specs.declared.Answer.TheVariants.{Done, Refused, Complex, Short}
 use Rattle.definition.specs.declared.Event.{Event}
 use Rattle.definition.specs.declared.Event.TheVariants.{RegisterRead, RegisterWrite, MemoryRead, MemoryWrite, UnknownRead, UnknownWrite}
+use Rattle.laws.specs.declared.refusals.Refusal.TheVariants.{Malformed, Outside}
 use Rattle.definition.specs.declared.Reading.{Reading}
 use Rattle.definition.specs.declared.Reading.TheVariants.{Found, Bad, Finished}
 use Rattle.promises.specs.Rows.{Patch, record_with, file_knowing, knows, long, opcode, count, specs, regs, size, disp, prefixes, behavior, access, list, W, Nothing, RegRRR, RegMMM, Deref, Disp, Row, row_in, row}
@@ -213,18 +214,18 @@ readings =
     ∷ (((5 ∷ 1 ∷ []), 2), Finished)
     ∷ (((5 ∷ 1 ∷ []), 3), Finished)
     -- kinds, and bodies cut short, also where what is there is bad
-    ∷ (((0 ∷ 1 ∷ 1 ∷ []), 0), Bad 1)
-    ∷ (((7 ∷ 1 ∷ 1 ∷ []), 0), Bad 1)
-    ∷ (((2 ∷ 99 ∷ []), 0), Bad 1)
-    ∷ (((3 ∷ 1 ∷ 2 ∷ 3 ∷ 4 ∷ 5 ∷ 6 ∷ 7 ∷ 8 ∷ []), 0), Bad 1)
-    ∷ (((6 ∷ []), 0), Bad 1)
+    ∷ (((0 ∷ 1 ∷ 1 ∷ []), 0), Bad Malformed)
+    ∷ (((7 ∷ 1 ∷ 1 ∷ []), 0), Bad Malformed)
+    ∷ (((2 ∷ 99 ∷ []), 0), Bad Malformed)
+    ∷ (((3 ∷ 1 ∷ 2 ∷ 3 ∷ 4 ∷ 5 ∷ 6 ∷ 7 ∷ 8 ∷ []), 0), Bad Malformed)
+    ∷ (((6 ∷ []), 0), Bad Malformed)
     -- contents
-    ∷ (((1 ∷ 0 ∷ 16 ∷ []), 0), Bad 2)
-    ∷ (((2 ∷ 14 ∷ 0 ∷ []), 0), Bad 2)
-    ∷ (((3 ∷ 0 ∷ 0 ∷ 0 ∷ 0 ∷ 0 ∷ 0 ∷ 0 ∷ 0 ∷ 0 ∷ []), 0), Bad 2)
-    ∷ (((4 ∷ 0 ∷ 0 ∷ 0 ∷ 0 ∷ 0 ∷ 0 ∷ 0 ∷ 0 ∷ 65 ∷ []), 0), Bad 2)
-    ∷ (((5 ∷ 0 ∷ []), 0), Bad 2)
-    ∷ (((6 ∷ 65 ∷ []), 0), Bad 2)
+    ∷ (((1 ∷ 0 ∷ 16 ∷ []), 0), Bad Outside)
+    ∷ (((2 ∷ 14 ∷ 0 ∷ []), 0), Bad Outside)
+    ∷ (((3 ∷ 0 ∷ 0 ∷ 0 ∷ 0 ∷ 0 ∷ 0 ∷ 0 ∷ 0 ∷ 0 ∷ []), 0), Bad Outside)
+    ∷ (((4 ∷ 0 ∷ 0 ∷ 0 ∷ 0 ∷ 0 ∷ 0 ∷ 0 ∷ 0 ∷ 65 ∷ []), 0), Bad Outside)
+    ∷ (((5 ∷ 0 ∷ []), 0), Bad Outside)
+    ∷ (((6 ∷ 65 ∷ []), 0), Bad Outside)
     ∷ []
 
 -- Document 01's numbers of answers: number, opcode and count of an answer; of a reading; of a privilege level
@@ -235,7 +236,7 @@ unfoldable pub answer_numbers : List (Answer × (ℕ × ℕ × ℕ))
 answer_numbers = (Done 5, (0, 0, 5)) ∷ (Refused 3, (3, 0, 0)) ∷ (Complex 9, (4, 9, 0)) ∷ (Short 6, (7, 0, 6)) ∷ []
 
 unfoldable pub reading_numbers : List (Reading × ℕ)
-reading_numbers = (Found (UnknownRead 1) 2, 0) ∷ (Bad 1, 1) ∷ (Bad 2, 2) ∷ (Finished, 255) ∷ []
+reading_numbers = (Found (UnknownRead 1) 2, 0) ∷ (Bad Malformed, 1) ∷ (Bad Outside, 2) ∷ (Finished, 255) ∷ []
 
 -- the number and the values of each case of the other answers: refused, every other number is 0
 abbrev pub digest_numbers : DigestAnswer → ℕ × BehaviorDigest

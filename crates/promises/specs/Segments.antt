@@ -7,6 +7,7 @@ use Rattle.definition.specs.Visits.{log_of}
 use Rattle.definition.specs.declared.Event.{Event}
 use Rattle.definition.specs.declared.Answer.TheVariants.{Done, Refused, Complex}
 use Rattle.definition.specs.declared.Event.TheVariants.{RegisterRead, RegisterWrite, UnknownRead}
+use Rattle.laws.specs.declared.refusals.Refusal.TheVariants.{Outside}
 use Rattle.definition.specs.declared.Reading.{Reading}
 use Rattle.definition.specs.declared.Reading.TheVariants.{Found, Bad}
 use Rattle.registers.specs.Banks as banks
@@ -105,9 +106,9 @@ base_readings =
     ∷ (((1 ∷ 13 ∷ 1 ∷ []), 0), Found (RegisterRead banks.gs) 3)
     ∷ (((2 ∷ 13 ∷ 0 ∷ []), 0), Found (RegisterWrite banks.fs) 3)
     ∷ (((2 ∷ 13 ∷ 1 ∷ []), 0), Found (RegisterWrite banks.gs) 3)
-    ∷ (((1 ∷ 13 ∷ 2 ∷ []), 0), Bad 2)
-    ∷ (((2 ∷ 13 ∷ 2 ∷ []), 0), Bad 2)
-    ∷ (((1 ∷ 14 ∷ 0 ∷ []), 0), Bad 2)
+    ∷ (((1 ∷ 13 ∷ 2 ∷ []), 0), Bad Outside)
+    ∷ (((2 ∷ 13 ∷ 2 ∷ []), 0), Bad Outside)
+    ∷ (((1 ∷ 14 ∷ 0 ∷ []), 0), Bad Outside)
     -- what a log's bytes stand for, where the sum with a base wraps: the event itself
     ∷ ((bytes_of wrapped, 6), Found (get_or wrapped 2 (UnknownRead 0)) 16)
     ∷ []

@@ -25,7 +25,7 @@ pub const FILE_BYTES: usize = 5 + 8 * PLAIN_SLOTS;
 pub const BASED_BYTES: usize = 5 + 8 * FILE_SLOTS;
 
 // A register: its bank, and its number there.
-#[derive(Clone, Copy)]
+#[derive(Clone, Copy, PartialEq, Eq)]
 pub struct RegSpec {
     pub bank: u8,
     pub number: u8,

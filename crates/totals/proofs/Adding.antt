@@ -1,8 +1,12 @@
 -- What adding a log comes to, by its refusal. Assumes nothing.
-use Rattle.std.proofs.Common.{◌≡◌, ℕ, Bool, true, false, cond, not, ltb, leb, List, length, get_or, refl, arith, eq-eqb, ne_eqb}
+use Rattle.std.proofs.Common.{◌≡◌, ℕ, Bool, true, false, cond, not, ltb, leb, List, length, get_or, refl, sym, ◌∙◌, arith, ne_eqb}
+use Rattle.std.specs.Prelude.{Result, Ok, Err}
 use Rattle.laws.specs.Lists.{each}
+use Rattle.laws.specs.Refusals.{refusal_number, refused_by}
+use Rattle.laws.specs.declared.refusals.Refusal.{Refusal}
+use Rattle.laws.specs.declared.refusals.Refusal.TheVariants.{Malformed, Outside, BadFile, Complex, Nameless, Sizeless, NoRoom, Cut, Unlisted, Full}
 use Rattle.event.specs.Wholes.{events_in, whole_of}
-use Rattle.event.specs.Counts.{counted_of, counted_number}
+use Rattle.event.specs.Counts.{counted_of}
 use Rattle.watching.specs.Verdicts.{is_length}
 use Rattle.totals.specs.Sheets.{logs_word, length_word, most_logs, most_log_bytes, variable_in, additions, log_adds, raised, raised_by, refusal_of, taken_by, add_of}
 
@@ -16,25 +20,46 @@ by_tests false true false n e = (refl, refl, refl, e)
 -- a log that is taken: the limit is not reached, the variable has a length that there is, the log is not too long and reads whole
 pub taken_when :
     (w l : List ℕ) → refusal_of w l ≡ 0
-    → (leb most_logs (get_or w logs_word 0) ≡ false) × (is_length (get_or w length_word 0) ≡ true) × (ltb most_log_bytes (length l) ≡ false) × (counted_number (counted_of l) ≡ 0)
+    → (leb most_logs (get_or w logs_word 0) ≡ false) × (is_length (get_or w length_word 0) ≡ true) × (ltb most_log_bytes (length l) ≡ false) × (refused_by (counted_of l) ≡ 0)
 unfolding refusal_of
-taken_when w l e = by_tests (leb most_logs (get_or w logs_word 0)) (is_length (get_or w length_word 0)) (ltb most_log_bytes (length l)) (counted_number (counted_of l)) e
+taken_when w l e = by_tests (leb most_logs (get_or w logs_word 0)) (is_length (get_or w length_word 0)) (ltb most_log_bytes (length l)) (refused_by (counted_of l)) e
 
 -- and back
 pub taken_so :
     (w l : List ℕ) → leb most_logs (get_or w logs_word 0) ≡ false → is_length (get_or w length_word 0) ≡ true → ltb most_log_bytes (length l) ≡ false
-    → refusal_of w l ≡ counted_number (counted_of l)
+    → refusal_of w l ≡ refused_by (counted_of l)
 unfolding refusal_of
 taken_so w l a b c = rw (a, b, c)
 
--- the two outcomes
-pub refused : (w l : List ℕ) (n : ℕ) → n ≡ refusal_of w l → (n ≡ 0 → ⊥) → (n, w) ≡ add_of w l
-unfolding add_of
-refused w l n e h = rw (← e, ne_eqb n 0 h)
+-- a refusal's number is not 0
+pub numbered : (r : Refusal) → refusal_number r ≡ 0 → ⊥
+numbered Malformed e = absurd (omega arith)
+numbered Outside e = absurd (omega arith)
+numbered BadFile e = absurd (omega arith)
+numbered (Complex o) e = absurd (omega arith)
+numbered Nameless e = absurd (omega arith)
+numbered Sizeless e = absurd (omega arith)
+numbered (NoRoom n) e = absurd (omega arith)
+numbered Cut e = absurd (omega arith)
+numbered Unlisted e = absurd (omega arith)
+numbered Full e = absurd (omega arith)
 
-pub took : (w l u : List ℕ) (n : ℕ) → n ≡ refusal_of w l → n ≡ 0 → u ≡ taken_by w l → (0, u) ≡ add_of w l
+-- refused, the words stay
+pub stays : (w l : List ℕ) {n : ℕ} → n ≡ refusal_of w l → (n ≡ 0 → ⊥) → (n, w) ≡ add_of w l
 unfolding add_of
-took w l u n e h q = rw (← e, eq-eqb n 0 h, h, q)
+stays w l {n} e h = rw (← e, ne_eqb n 0 h)
+
+-- the two outcomes, by what the tests came to
+module _ (w l : List ℕ) {c : Result Unit Refusal} (is : refused_by c ≡ refusal_of w l) where
+  pub refused : {r : Refusal} {n : ℕ} → c ≡ Err r → n ≡ refusal_number r → (n, w) ≡ add_of w l
+  refused {r} e m = stays w l (m ∙ rw e at is) (rw m (numbered r))
+
+  pub no_refusal : {x : Unit} → c ≡ Ok x → refusal_of w l ≡ 0
+  no_refusal e = sym (rw e at is)
+
+  pub took : {x : Unit} {u : List ℕ} → c ≡ Ok x → u ≡ taken_by w l → (0, u) ≡ add_of w l
+  unfolding add_of
+  took e q = let k = no_refusal e in rw (k, q)
 
 -- a log more, then its events
 pub taken_steps : (w l : List ℕ) → raised_by (raised w logs_word 1) (each (additions (variable_in w)) (events_in (whole_of l))) ≡ taken_by w l

@@ -1,11 +1,12 @@
 -- An acceptance sheet: totals over logs under one watch, as the 99 words that a caller keeps.
 use Rattle.std.specs.Prelude.{ℕ, ◌+◌, ◌%◌, cond, not, List, [], ◌∷◌, length, replicate, ◌==◌, nat_le, nat_lt, slice_index, slice_set}
 use Rattle.laws.specs.Lists.{each}
+use Rattle.laws.specs.Refusals.{refused_by}
 use Rattle.definition.specs.Addresses.{word}
 use Rattle.definition.specs.declared.Event.{Event}
 use Rattle.definition.specs.declared.Event.TheVariants.{RegisterRead, RegisterWrite, MemoryRead, MemoryWrite, UnknownRead, UnknownWrite}
 use Rattle.event.specs.Wholes.{whole_of, events_in}
-use Rattle.event.specs.Counts.{counted_of, counted_number}
+use Rattle.event.specs.Counts.{counted_of}
 use Rattle.watching.specs.Verdicts.{variable, is_length, store_verdict}
 use Rattle.watching.specs.declared.verdicts.Variable.{Variable}
 use Rattle.watching.specs.declared.verdicts.Verdict.{Verdict}
@@ -99,7 +100,7 @@ unfoldable pub refusal_of : List ℕ → List ℕ → ℕ
 refusal_of w l =
     cond (nat_le most_logs (slice_index w logs_word)) 10
     (cond (not (is_length (slice_index w length_word))) 2
-    (cond (nat_lt most_log_bytes (length l)) 2 (counted_number (counted_of l))))
+    (cond (nat_lt most_log_bytes (length l)) 2 (refused_by (counted_of l))))
 
 -- a sheet's words after a log that it takes
 unfoldable pub taken_by : List ℕ → List ℕ → List ℕ

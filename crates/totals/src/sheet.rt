@@ -1,10 +1,12 @@
 // A sheet's calls: its caller keeps its 99 words. Any words at all get an answer.
 ghost use Rattle.std.specs.Prelude.{◌≡◌};
+ghost use Rattle.laws.specs.Refusals.{refusal_number, refused_by};
 ghost use Rattle.watching.specs.Verdicts.{variable};
 ghost use Rattle.totals.specs.Sheets.{refusal_of, taken_by, add_of, fresh, new_of};
 
 use crate::words::{ADDRESS, LENGTH, LOGS, WORDS, add_events, raise};
 use event::count_events;
+use laws::Refusal;
 use watching::{Variable, is_length};
 
 // A sheet takes no more logs.
@@ -13,44 +15,54 @@ pub const MOST_LOGS: u64 = 4294967295;
 // A log may have no more bytes.
 pub const MOST_LOG_BYTES: usize = 65536;
 
-// Why a log is refused, 0 where it is taken.
-fn refusal(words: &[u64; WORDS], log: &[u8]) -> u8
-    ensures { result ≡ refusal_of words.now log.now }
+// Whether a sheet takes a log, or why it does not.
+#[tactic(auto, unfolding(crate::specs::Sheets::refusal_of))]
+fn may_take(words: &[u64; WORDS], log: &[u8]) -> Result<(), Refusal>
+    ensures { refused_by result ≡ refusal_of words.now log.now }
 {
     if MOST_LOGS <= words[LOGS] {
-        return 10;
+        return Err(Refusal::Full);
     }
     if !is_length(words[LENGTH]) {
-        return 2;
+        return Err(Refusal::Outside);
     }
     if MOST_LOG_BYTES < log.len() {
-        return 2;
+        return Err(Refusal::Outside);
     }
-    count_events(log).number()
+    count_events(log)?;
+    Ok(())
+}
+
+// A refusal as a C caller takes it.
+fn number_of(refusal: Refusal) -> u64
+    ensures { result ≡ refusal_number refusal }
+{
+    u64::from(u8::from(refusal))
 }
 
 // A new sheet; refused, the words stay.
+// Stays: the C interface, machhurel_sheet_new answers this number.
+#[tactic(auto, unfolding(crate::specs::Sheets::new_of, crate::specs::Sheets::fresh))]
 pub fn new_sheet(sheet: &mut [u64; WORDS], address: u64, length: u64) -> u64
     ensures { (result, sheet.new) ≡ new_of sheet.old address length }
 {
-    if is_length(length) {
-        let mut words = [0u64; WORDS];
-        words[ADDRESS] = address;
-        words[LENGTH] = length;
-        *sheet = words;
-        0
-    } else {
-        2
+    if !is_length(length) {
+        return number_of(Refusal::Outside);
     }
+    let mut words = [0u64; WORDS];
+    words[ADDRESS] = address;
+    words[LENGTH] = length;
+    *sheet = words;
+    0
 }
 
 // One log more.
+// Stays: the C interface, machhurel_sheet_add answers this number.
 pub fn add_log(sheet: &mut [u64; WORDS], log: &[u8]) -> u64
     ensures { (result, sheet.new) ≡ add_of sheet.old log.now }
 {
-    let number = refusal(sheet, log);
-    if number != 0 {
-        return number as u64;
+    if let Err(refusal) = may_take(sheet, log) {
+        return number_of(refusal);
     }
     let v = Variable {
         address: sheet[ADDRESS],

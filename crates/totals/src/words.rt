@@ -40,6 +40,7 @@ pub const BANK_COUNT: usize = 14;
 pub const SIZE_COUNT: usize = 64;
 
 // Past the last word nothing is raised.
+#[tactic(auto, unfolding(crate::specs::Sheets::raised))]
 pub(crate) fn raise(words: &mut [u64; WORDS], i: usize, n: u64)
     ensures { words.new ≡ raised words.old i n }
 {
@@ -51,16 +52,11 @@ pub(crate) fn raise(words: &mut [u64; WORDS], i: usize, n: u64)
 fn parts(v: Verdict) -> u64
     ensures { result ≡ parts v }
 {
-    match v {
-        Verdict::NoWrite => 0,
-        Verdict::AddressUnknown => 0,
-        Verdict::NoneTouched => 0,
-        Verdict::PartTouched => 1,
-        Verdict::WholeTouched => 0,
-    }
+    u64::from(matches!(v, Verdict::PartTouched))
 }
 
 // A memory event of n bytes: one more of its size, and its bytes in or out.
+#[tactic(auto, unfolding(crate::specs::Sheets::raised_by))]
 fn add_memory(words: &mut [u64; WORDS], bytes: usize, n: u8)
     ensures { words.new ≡ raised_by words.old ((size_word n, 1) ∷ (bytes, n) ∷ []) }
 {
@@ -68,6 +64,7 @@ fn add_memory(words: &mut [u64; WORDS], bytes: usize, n: u8)
     raise(words, bytes, n as u64);
 }
 
+#[tactic(auto, unfolding(crate::specs::Sheets::additions, crate::specs::Sheets::raised_by, watching::specs::Verdicts::verdict_of))]
 fn add_event(words: &mut [u64; WORDS], v: Variable, e: Event)
     requires { (is_length v.length ≡ true) × (is_event e ≡ true) }
     ensures { words.new ≡ raised_by words.old (additions v e) }
@@ -88,14 +85,14 @@ fn add_event(words: &mut [u64; WORDS], v: Variable, e: Event)
 }
 
 // Every event of a log, as far as it reads.
+// Stays: document 01's form, a log walk that takes each answer apart by let .. else.
 pub(crate) fn add_events(words: &mut [u64; WORDS], v: Variable, log: &[u8])
     requires { is_length v.length ≡ true }
     ensures { words.new ≡ raised_by words.old (each (additions v) (events_in (whole_of log.now))) }
 {
     let mut at = 0;
     loop {
-        let r = read_event(log, at);
-        let Reading::Found(e, next) = r else {
+        let Reading::Found(e, next) = read_event(log, at) else {
             return;
         };
         add_event(words, v, e);

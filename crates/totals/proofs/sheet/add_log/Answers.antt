@@ -1,0 +1,23 @@
+-- By what the tests came to. Assumes nothing.
+use Rattle.std.proofs.Common.{List, ℕ, ap, ◌∙◌}
+use Rattle.laws.specs.Lists.{each}
+use Rattle.event.specs.Wholes.{events_in, whole_of}
+use Rattle.totals.specs.Sheets.{variable_in, additions, raised_by}
+use Rattle.totals.proofs.Adding.{taken_when, no_refusal, refused, took, taken_steps}
+use Rattle.totals.proofs.sheet.add_log.Goals as goal
+
+pub returns-in-Err : goal.returns-in-Err
+returns-in-Err c = refused c.args.sheet.now c.args.log.now c.may_take.ensures c.in-Err.is c.number_of.ensures
+
+pub add_events-requires : goal.add_events-requires
+add_events-requires c =
+    let w = c.args.sheet.now in
+    let l = c.args.log.now in
+    (taken_when w l (no_refusal w l c.may_take.ensures c.in_default.is)).1
+
+pub returns : goal.returns
+returns c =
+    let w = c.args.sheet.now in
+    let l = c.args.log.now in
+    took w l c.may_take.ensures c.in_default.is
+    (c.add_events.ensures ∙ ap (λ (u : List ℕ). raised_by u (each (additions (variable_in w)) (events_in (whole_of l)))) c.raise.ensures ∙ taken_steps w l)
