@@ -23,5 +23,5 @@ stepped_bits (Err r) = refusal_number r
 -- event's length in bytes
 abbrev pub naming_bits : ℕ → Naming → ℕ
 naming_bits place (Named v touched next) = at 8 (verdict_number v) + at 16 touched + at 32 (next - place)
-naming_bits place (Unnamed k) = k
+naming_bits place (Unnamed r) = refusal_number r
 naming_bits place Ended = 255

@@ -10,7 +10,6 @@ use Rattle.event.proofs.Fronts.{Moves, goes_on_lem, finished, front_empty}
 use Rattle.watching.specs.Verdicts.{is_length, named_by, name_at}
 use Rattle.watching.specs.Walks.{events_by, events_from, events_in}
 use Rattle.watching.specs.declared.verdicts.Variable.{Variable}
-use Rattle.watching.specs.declared.verdicts.Naming.TheVariants.{Unnamed}
 
 -- the rest of a walk goes by what was read
 same :
@@ -98,7 +97,3 @@ reads_events l es r = whole l ∙ reads_from r l 0 refl
 pub named : (v : Variable) (l : List ℕ) (at : ℕ) (r : Reading) → is_length v.length ≡ true → read_at l at ≡ r → named_by v r ≡ name_at v l at
 unfolding name_at
 named v l at r h e = rw (h, e)
-
-pub unnamed : (v : Variable) (l : List ℕ) (at : ℕ) → is_length v.length ≡ false → Unnamed 2 ≡ name_at v l at
-unfolding name_at
-unnamed v l at h = rw h

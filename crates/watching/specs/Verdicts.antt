@@ -2,7 +2,7 @@
 use Rattle.std.specs.Prelude.{ℕ, zero, suc, ◌+◌, ◌%◌, Bool, cond, ◌&&◌, List, [], ◌∷◌, ◌==◌, nat_le}
 use Rattle.laws.specs.Tests.{is_in}
 use Rattle.sets.specs.Sets.{bits_from}
-use Rattle.laws.specs.Refusals.{refusal_number}
+use Rattle.laws.specs.declared.refusals.Refusal.TheVariants.{Outside}
 use Rattle.definition.specs.Addresses.{word}
 use Rattle.definition.specs.Readings.{read_at}
 use Rattle.definition.specs.declared.Event.{Event}
@@ -71,8 +71,8 @@ touched_of v (UnknownWrite n) = 0
 -- the event at a place of a log, named: as it reads, but for a length that no variable has
 abbrev pub named_by : Variable → Reading → Naming
 named_by v (Found e next) = Named (verdict_of v e) (touched_of v e) next
-named_by v (Bad r) = Unnamed (refusal_number r)
+named_by v (Bad r) = Unnamed r
 named_by v Finished = Ended
 
 unfoldable pub name_at : Variable → List ℕ → ℕ → Naming
-name_at v log at = cond (is_length v.length) (named_by v (read_at log at)) (Unnamed 2)
+name_at v log at = cond (is_length v.length) (named_by v (read_at log at)) (Unnamed Outside)

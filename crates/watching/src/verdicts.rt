@@ -9,6 +9,7 @@ ghost use Rattle.watching.specs.Verdicts.{is_length, bytes_from, store_verdict, 
 use crate::watched::Watched;
 use definition::{Event, Reading};
 use event::read_event;
+use laws::Refusal;
 
 // A variable in memory: its first byte's address and its length in bytes.
 #[derive(Clone, Copy)]
@@ -44,12 +45,12 @@ impl From<Verdict> for u8 {
 }
 
 // What is said of the event at a place of a log: its verdict, the variable's bytes that it wrote (bit i for byte i) and the place after
-// it; or a refusal number; or that the log has ended.
-// Stays: it has the three cases and the number of definition::Reading; Result<Option<..>, Refusal> would nest them and look the number up.
+// it; or why it is refused; or that the log has ended.
+// Stays: it has the three cases of definition::Reading; a Result<Option<..>, Refusal> would nest them, and be no plainer.
 #[derive(Clone, Copy)]
 pub enum Naming {
     Named(Verdict, u8, usize),
-    Unnamed(u8),
+    Unnamed(Refusal),
     Ended,
 }
 
@@ -144,7 +145,7 @@ pub fn name_event(v: Variable, log: &[u8], at: usize) -> Naming
     ensures { result ≡ name_at v log.now at }
 {
     let Ok(watched) = Watched::new(v) else {
-        return Naming::Unnamed(2);
+        return Naming::Unnamed(Refusal::Outside);
     };
     let r = read_event(log, at);
     match r {
@@ -153,7 +154,7 @@ pub fn name_event(v: Variable, log: &[u8], at: usize) -> Naming
             watched.touched_by(e),
             next,
         ),
-        Reading::Bad(refusal) => Naming::Unnamed(u8::from(refusal)),
+        Reading::Bad(refusal) => Naming::Unnamed(refusal),
         Reading::Finished => Naming::Ended,
     }
 }
