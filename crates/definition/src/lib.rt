@@ -64,6 +64,7 @@ pub enum Event {
 }
 
 // What reading a log at a place finds: an event and the place after it, a refusal, or the end.
+// Stays: document 01's three cases, by which Reads, ReadsFrom and NamedAsCounted are stated; a Result of an Option has them two deep.
 #[derive(Clone, Copy)]
 pub enum Reading {
     Found(Event, usize),

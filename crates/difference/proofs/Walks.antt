@@ -3,7 +3,7 @@ use Prim.Native.Nat.{ℕ, ◌+◌}
 use native.Mathlib.Omega.{arith}
 use mathlib.Core.Path.{◌≡◌, refl, sym, ap, ◌∙◌}
 use mathlib.Core.Bool.{true, false}
-use mathlib.Core.List.{List, [], ◌∷◌}
+use mathlib.Core.List.{List}
 use lib.ListN.{length, drop}
 use Rattle.definition.specs.Logs.{event_bytes}
 use Rattle.definition.specs.Readings.{read_front, read_at, placed}

@@ -5,6 +5,7 @@ ghost use Rattle.difference.specs.Partings.{parted_of, parting_of};
 
 use crate::logs::{Parted, part_logs, tail};
 
+// Stays: theorem BrokenLogs, which says the sign and the part of a refused answer too; compare gives all three of any two logs.
 #[derive(Clone, Copy)]
 pub struct Difference<'b> {
     pub number: u8,

@@ -6,6 +6,7 @@ use crate::walk::shared_end;
 use laws::Refusal;
 
 // The refusal number or 0, whether the logs differ, and where the part of the second log begins.
+// Stays: the C interface, machhurel_difference hands out the place of a refused answer too, and BrokenLogs says which sign and place.
 #[derive(Clone, Copy)]
 pub struct Parted {
     pub number: u8,

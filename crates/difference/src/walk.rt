@@ -7,6 +7,7 @@ use definition::Reading;
 
 // Where the events end that both logs begin with, as far as both read. Equal events are equally long, so one place
 // serves both logs.
+// Stays: document 01's form, a log walk that takes each answer apart by let .. else.
 pub fn shared_end(first: &[u8], second: &[u8]) -> usize
     ensures { (result ≡ parting_at (events_in (whole_of first.now)) (events_in (whole_of second.now)))
         × (result ≤ length second.now) }

@@ -46,6 +46,8 @@ pub fn read_front(log: &[u8]) -> Reading
     }
 }
 
+// How many bytes stand behind a kind, 0 for no kind.
+// Stays: no plainer, a kind is a byte of the log, and an enum of kinds would be made from it in one match and taken apart in the next.
 #[tactic(auto, using(crate::proofs::Bodies::register_body, crate::proofs::Bodies::memory_body, crate::proofs::Bodies::unknown_body, crate::proofs::Bodies::no_body, crate::proofs::Bodies::past_bodies))]
 fn body_of(kind: u8) -> usize
     ensures { result ≡ body_of kind }

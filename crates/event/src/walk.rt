@@ -7,7 +7,7 @@ use definition::Reading;
 use laws::Refusal;
 
 // How many events a log has, or why it does not read whole.
-// Stays: document 01's form, a log walk that takes each answer apart by let .. else.
+// Stays: document 01's form, a log walk that takes each answer apart by let .. else; a fold would not say why the log ends.
 pub fn count_events(log: &[u8]) -> Result<usize, Refusal>
     ensures { result ≡ counted_of log.now }
 {

@@ -1,13 +1,12 @@
--- What an append in words asks: its answer fits its bits, and the words are those of the session. Assumes nothing.
+-- What an append in words asks: its answer fits its bits; and a session is read back from its words. Assumes nothing.
 use Rattle.std.proofs.Common.{◌≡◌, ℕ, ◌^◌, ◌<◌, not, List, refl, ap}
 use Rattle.registers.specs.Files.{file_of, is_file}
 use Rattle.definition.specs.Visits.{count_of}
 use Rattle.definition.specs.declared.Answer.{Answer}
-use Rattle.answers.specs.Answers.{answer_bits}
 use Rattle.answers.proofs.Counts.{visit_fits}
 use Rattle.session.specs.declared.appends.Session.{Session}
 use Rattle.session.specs.Sessions.{Held, appended}
-use Rattle.session.specs.Words.{session_in, words_of, in_words}
+use Rattle.session.specs.Words.{session_in, words_of}
 
 pub append_fits : (b f : List ℕ) (h : Held) {a : Answer} {after : Held} → (a, after) ≡ appended b f h → count_of a < 2 ^ 32
 unfolding appended
@@ -17,9 +16,3 @@ append_fits b f h e =
 -- the words of a session are those that it came from
 pub session_kept : (s : Session) → session_in (words_of s) ≡ s
 session_kept s = refl
-
-pub append_kept :
-    (b f p words : List ℕ) (s : Session) {r : ℕ} {a : Answer} {t : Session} {w log : List ℕ}
-    → s ≡ session_in words → (a, (t, log)) ≡ appended b f (s, p) → w ≡ words_of t → r ≡ answer_bits a
-    → (r, (w, log)) ≡ in_words (appended b f (session_in words, p))
-append_kept b f p words s i e v n = rw (← i, ← e, v, n)

@@ -33,7 +33,7 @@ impl Counts {
 }
 
 // The counts of a log's events, as far as it reads.
-// Stays: document 01's form, a log walk that takes each answer apart by let .. else.
+// Stays: document 01's form, a walk by let .. else; a fold asks that its step may be called at any counts, and counting asks that they fit.
 pub(crate) fn count_log(log: &[u8]) -> Counts
     ensures { result ≡ counts_of (events_in (whole_of log.now)) }
 {

@@ -12,6 +12,7 @@ use watching::{Variable, Verdict, verdict_on};
 
 // How many words a sheet has, and their places. Bank b's reads stand at READS + b, its writes at WRITES + b, memory events of n bytes at
 // SIZES + n.
+// Stays: the C interface, a sheet is the 99 words that its caller keeps, and a word is found by its place.
 pub const WORDS: usize = 99;
 
 pub(crate) const ADDRESS: usize = 0;
@@ -85,7 +86,7 @@ fn add_event(words: &mut [u64; WORDS], v: Variable, e: Event)
 }
 
 // Every event of a log, as far as it reads.
-// Stays: document 01's form, a log walk that takes each answer apart by let .. else.
+// Stays: document 01's form, a walk by let .. else; a fold asks that its step may be called at any event, and add_event asks is_event.
 pub(crate) fn add_events(words: &mut [u64; WORDS], v: Variable, log: &[u8])
     requires { is_length v.length ≡ true }
     ensures { words.new ≡ raised_by words.old (each (additions v) (events_in (whole_of log.now))) }

@@ -11,7 +11,7 @@ overflow_add-result c =
     let l = c.args.log.now in
     let at = c.args.at in
     let m : (at < at + c.in-Found.n) × (at + c.in-Found.n ≤ length l) =
-        subst (Moves l at) (sym (rw c.in-Found.is at (from_part l at c.read_front-r.ensures))) (goes_on_lem l at) in
+    subst (Moves l at) (sym (rw c.in-Found.is at (from_part l at c.read_front-r.ensures))) (goes_on_lem l at) in
     omega arith
 
 pub returns-in-Found : goal.returns-in-Found
