@@ -1,32 +1,46 @@
 -- The parts of a call.
-use Rattle.std.specs.Prelude.{ℕ, ◌≤◌, ◌≡◌, Bool, false, List, length, take}
-use Rattle.streams.specs.Cuts.{says}
-use Rattle.streams.specs.Streams.{record_says, Outcome, outcome_of}
-use Rattle.reader.specs.Held.{item_room, reader_with, reader_in}
+use Rattle.std.specs.Prelude.{ℕ, ◌≡◌, Bool, false, Result, Ok, Err}
+use Rattle.laws.specs.Refusals.{refusal_number}
+use Rattle.laws.specs.declared.refusals.Refusal.{Refusal}
+use Rattle.laws.specs.declared.refusals.Refusal.TheVariants.{Malformed, Outside, BadFile, Complex, Nameless, Sizeless, NoRoom, Cut, Unlisted, Full}
+use Rattle.streams.specs.declared.Call.{Call}
 use Rattle.reader.specs.Items.{PartIn}
-use Rattle.reader.specs.declared.chunks.Reader.{Reader}
-use Rattle.reader.specs.declared.chunks.Reply.{Reply}
-use Rattle.reader.specs.declared.items.Taking.{Taking}
+use Rattle.reader.specs.declared.held.Reader.{Reader}
 use Rattle.reader.specs.declared.items.Brought.TheVariants.{Nothing}
 
--- what a sound reader's numbers and places are
-pub record Kept (r : Reader) (item file : List ℕ) : Type 0 where
-  pub inside : r.kept ≤ item_room
-  pub held : r.file ≤ item_room
-  pub place : r.stopped ≡ false → length item ≡ item_room
-  pub beside : r.stopped ≡ false → length file ≡ item_room
-  pub part : r.stopped ≡ false → PartIn Nothing r.kept item
-  pub same : reader_in r item file ≡ reader_with r item file
+-- a reader that has not stopped keeps no byte, or a part of an item
+pub record Going (r : Reader) : Type 0 where
+  pub part : r.stopped ≡ false → PartIn Nothing r.kept
 
-abbrev pub replying : ℕ → Bool → ℕ → ℕ → ℕ → Reader → Reply
-replying number finished taken n opcode r =
-    record { call = record { number = number; finished = finished; taken = taken; n = n; opcode = opcode }; reader = r }
+abbrev pub calling : ℕ → Bool → ℕ → ℕ → ℕ → Call
+calling number finished taken n opcode = record { number = number; finished = finished; taken = taken; n = n; opcode = opcode }
 
--- a reader between two items, with so many bytes of a file
-abbrev pub going_on : ℕ → Reader
-going_on held = record { kept = 0; file = held; stopped = false }
+-- what goes beside a refusal: the bytes that are needed, and an opcode
+abbrev pub needed_by : Refusal → ℕ
+needed_by (NoRoom n) = n
+needed_by Malformed = 0
+needed_by Outside = 0
+needed_by BadFile = 0
+needed_by (Complex o) = 0
+needed_by Nameless = 0
+needed_by Sizeless = 0
+needed_by Cut = 0
+needed_by Unlisted = 0
+needed_by Full = 0
 
--- what a record that stands whole is answered
-abbrev pub record_outcome : Taking → List ℕ → List ℕ → Outcome
-record_outcome t item file =
-    outcome_of t.taken (says (record_says (take t.file file) (take t.kept item)) (take t.file file) t.taken)
+abbrev pub opcode_in : Refusal → ℕ
+opcode_in (Complex o) = o
+opcode_in Malformed = 0
+opcode_in Outside = 0
+opcode_in BadFile = 0
+opcode_in Nameless = 0
+opcode_in Sizeless = 0
+opcode_in (NoRoom n) = 0
+opcode_in Cut = 0
+opcode_in Unlisted = 0
+opcode_in Full = 0
+
+-- an answer as the numbers of a call
+abbrev pub answering : Result ℕ Refusal → Bool → ℕ → Call
+answering (Ok n) finished taken = calling 0 finished taken n 0
+answering (Err r) finished taken = calling (refusal_number r) finished taken (needed_by r) (opcode_in r)

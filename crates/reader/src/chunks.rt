@@ -1,223 +1,154 @@
-// The calls of a reader: a chunk is handed over, and the reader is closed. Whoever calls keeps the reader: its numbers by value, and two
-// places of ITEM_ROOM bytes each, for the unfinished item and for the latest good file. Any numbers and bytes get an answer.
-ghost use Rattle.std.specs.Prelude.{◌≡◌, true, false, ◌&&◌, ◌+◌, ◌≤◌, ◌<◌, length, take};
+// The calls of a reader: a chunk is handed over, and the reader is closed. Any bytes in its places get an answer.
+ghost use Rattle.std.specs.Prelude.{◌≡◌, true, false, ◌&&◌, ◌||◌, ◌+◌, ◌^◌, ◌≤◌, ◌<◌, length};
+ghost use Rattle.laws.specs.Refusals.{refused_by};
 ghost use Rattle.definition.specs.Limits.{most_bytes};
 ghost use Rattle.definition.specs.Visits.{number_of, opcode_of, count_of};
 ghost use Rattle.streams.specs.Cuts.{closing_of};
 ghost use Rattle.streams.specs.Streams.{outcome_of};
-ghost use Rattle.reader.specs.Held.{reader_with, reader_in, holds_part, holds_file, handing, handed_to, left_by, Fits};
-ghost use Rattle.reader.specs.Items.{Sized, closed};
-ghost use Rattle.reader.specs.Chunks.{Kept, replying, going_on, record_outcome};
+ghost use Rattle.reader.specs.Held.{is_part, is_latest, reader_with, checked, handing, handed_to, left_by};
+ghost use Rattle.reader.specs.Items.{PartIn, closed};
+ghost use Rattle.reader.specs.Chunks.{answering, calling, Going};
 
-use crate::items::{Brought, Taking, take_items};
+use crate::held::Reader;
+use crate::items::{Brought, Taking};
 use crate::kinds::{is_file, length_of};
 use definition::Answer;
+use laws::Refusal;
 use streams::Call;
 use visiting::MOST_BYTES;
 
-// No item is longer than the places for an item and for a file.
-pub const ITEM_ROOM: usize = 160;
-
-// How many bytes are kept of the unfinished item, and of the latest good file, 0 for none; and whether an unknown kind was met.
-#[derive(Clone, Copy)]
-pub struct Reader {
-    pub kept: usize,
-    pub file: usize,
-    pub stopped: bool,
-}
-
-// What a call answers, and the reader from now on.
-#[derive(Clone, Copy)]
-pub struct Reply {
-    pub call: Call,
-    pub reader: Reader,
-}
-
-// Whether so many bytes of a place are none, or a part of an item.
-fn is_part(item: &[u8], kept: usize) -> bool
-    ensures { result ≡ holds_part item.now kept }
+// Whether bytes are none, or a part of an item.
+#[tactic(auto, unfolding(crate::specs::Held::is_part))]
+fn is_part(item: &[u8]) -> bool
+    ensures { result ≡ is_part item.now }
 {
-    if item.len() != ITEM_ROOM {
-        return false;
-    }
-    if kept == 0 {
-        return true;
-    }
-    kept < length_of(item[0])
+    item.is_empty() || item.len() < length_of(item[0])
 }
 
-// Whether so many bytes of a place are none, or a good file.
-fn is_latest(file: &[u8], held: usize) -> bool
-    ensures { result ≡ holds_file file.now held }
+// Whether bytes are none, or a good file.
+#[tactic(auto, unfolding(crate::specs::Held::is_latest))]
+fn is_latest(file: &[u8]) -> bool
+    ensures { result ≡ is_latest file.now }
 {
-    if file.len() != ITEM_ROOM {
-        return false;
-    }
-    if held == 0 {
-        return true;
-    }
-    if held < ITEM_ROOM {
-        return is_file(&file[..held]);
-    }
-    false
+    file.is_empty() || is_file(file)
 }
 
-fn is_sound(r: Reader, item: &[u8], file: &[u8]) -> bool
-    ensures { result ≡ (holds_part item.now r.kept && holds_file file.now r.file) }
+// What a call answers: a log of so many bytes, or why it is refused.
+fn answering(answer: Result<usize, Refusal>, finished: bool, taken: usize) -> Call
+    ensures { result ≡ answering answer finished taken }
 {
-    is_part(item, r.kept) && is_latest(file, r.file)
-}
-
-// The reader, or a stopped one where the bytes are none of a reader.
-pub fn checked(r: Reader, item: &[u8], file: &[u8]) -> Reader
-    ensures { (reader_with result item.now file.now ≡ reader_in r item.now file.now)
-        × Kept result item.now file.now }
-{
-    if is_sound(r, item, file) {
-        return r;
-    }
-    Reader {
-        kept: 0,
-        file: 0,
-        stopped: true,
-    }
-}
-
-// Nothing finished: the call's number, the bytes taken, and those that are needed.
-fn unfinished(number: u8, taken: usize, n: usize, reader: Reader) -> Reply
-    ensures { result ≡ replying number false taken n 0 reader }
-{
-    let call = Call {
-        number: number,
-        finished: false,
-        taken: taken,
-        n: n,
-        opcode: 0,
+    let (number, n, opcode) = match answer {
+        Ok(n) => (0, n, 0),
+        Err(Refusal::Complex(opcode)) => (4, 0, opcode),
+        Err(Refusal::NoRoom(n)) => (7, n, 0),
+        Err(refusal) => (u8::from(refusal), 0, 0),
     };
-    Reply {
-        call: call,
-        reader: reader,
-    }
-}
-
-// An item finished: the reader goes on with so many bytes of a file.
-fn finished(number: u8, taken: usize, n: usize, opcode: u16, held: usize) -> Reply
-    ensures { result ≡ replying number true taken n opcode (going_on held) }
-{
-    let call = Call {
-        number: number,
-        finished: true,
-        taken: taken,
-        n: n,
-        opcode: opcode,
-    };
-    let reader = Reader {
-        kept: 0,
-        file: held,
-        stopped: false,
-    };
-    Reply {
-        call: call,
-        reader: reader,
+    Call {
+        number,
+        finished,
+        taken,
+        n,
+        opcode,
     }
 }
 
 // What visiting answered of a record.
-fn visited(a: Answer, taken: usize, held: usize) -> Reply
-    ensures { result ≡ replying (number_of a) true taken (count_of a) (opcode_of a) (going_on held) }
+fn visited(a: Answer, taken: usize) -> Call
+    ensures { result ≡ calling (number_of a) true taken (count_of a) (opcode_of a) }
 {
-    match a {
-        Answer::Done(n) => finished(0, taken, n, 0, held),
-        Answer::Refused(number) => finished(number, taken, 0, 0, held),
-        Answer::Complex(opcode) => finished(4, taken, 0, opcode, held),
-        Answer::Short(n) => finished(7, taken, n, 0, held),
-    }
-}
-
-// A record that stands whole in its place.
-fn visit_item(t: Taking, item: &[u8], file: &[u8], log: &mut [u8], start: usize) -> Reply
-    requires { Sized t item.now file.now × (start + most_bytes ≤ length log.old) }
-    ensures { (left_by result item.now file.now log.new
-        ≡ handing (record_outcome t item.now file.now) log.old start) × Fits result }
-{
-    let kept = t.kept;
-    let held = t.file;
-    visited(
-        visiting::visit_accesses(&item[..kept], &file[..held], log, start),
-        t.taken,
-        held,
-    )
-}
-
-// What a chunk brought, answered.
-fn answer(t: Taking, item: &[u8], file: &[u8], log: &mut [u8], start: usize) -> Reply
-    requires { Sized t item.now file.now × (start + most_bytes ≤ length log.old) }
-    ensures { (left_by result item.now file.now log.new
-        ≡ handing (outcome_of t.taken (closed t item.now file.now)) log.old start) × Fits result }
-{
-    let brought = t.brought;
-    match brought {
-        Brought::Nothing => {
-            let reader = Reader {
-                kept: t.kept,
-                file: t.file,
-                stopped: false,
-            };
-            unfinished(0, t.taken, 0, reader)
-        }
-        Brought::Unknown => {
-            let reader = Reader {
-                kept: 0,
-                file: t.file,
-                stopped: true,
-            };
-            unfinished(1, t.taken, 0, reader)
-        }
-        Brought::BadFile => finished(3, t.taken, 0, 0, t.file),
-        Brought::Record => visit_item(t, item, file, log, start),
-    }
-}
-
-// A chunk is handed over, with a log buffer from a start on. The call ends with the first record or bad file that finishes, with an
-// unknown kind, or when the chunk is taken.
-pub fn read_chunk(
-    r: Reader,
-    item: &mut [u8],
-    file: &mut [u8],
-    chunk: &[u8],
-    log: &mut [u8],
-    start: usize,
-) -> Reply
-    ensures { (left_by result item.new file.new log.new
-        ≡ handed_to (reader_in r item.old file.old) chunk.now log.old start) × Fits result }
-{
-    let s = checked(r, item, file);
-    if s.stopped {
-        return unfinished(1, 0, 0, s);
-    }
-    if laws::lacks_room(MOST_BYTES, start, log.len()) {
-        return unfinished(7, 0, MOST_BYTES, s);
-    }
-    let t = Taking {
-        brought: Brought::Nothing,
-        kept: s.kept,
-        file: s.file,
-        taken: 0,
+    let (number, n, opcode) = match a {
+        Answer::Done(n) => (0, n, 0),
+        Answer::Refused(number) => (number, 0, 0),
+        Answer::Complex(opcode) => (4, 0, opcode),
+        Answer::Short(n) => (7, n, 0),
     };
-    let u = take_items(t, item, file, chunk);
-    answer(u, item, file, log, start)
+    Call {
+        number,
+        finished: true,
+        taken,
+        n,
+        opcode,
+    }
 }
 
-// What closing answers: 1 of a stopped reader, 8 inside an item, else 0.
-pub fn close_reader(r: Reader, item: &[u8], file: &[u8]) -> u8
-    ensures { result ≡ closing_of (reader_in r item.now file.now) }
-{
-    let s = checked(r, item, file);
-    if s.stopped {
-        return 1;
+impl Reader {
+    fn is_sound(&self) -> bool
+        ensures { result ≡ (is_part self.now.kept && is_latest self.now.file) }
+    {
+        is_part(self.kept.bytes()) && is_latest(self.file.bytes())
     }
-    if s.kept == 0 {
-        return 0;
+
+    // A stopped reader, where the bytes are none of a reader.
+    #[tactic(auto, using(crate::proofs::Sound::checks))]
+    fn check(&mut self)
+        ensures same { reader_with self.new ≡ checked self.old }
+        ensures going { Going self.new }
+    {
+        if !self.is_sound() {
+            self.kept.clear();
+            self.file.clear();
+            self.stopped = true;
+        }
     }
-    8
+
+    // What a chunk brought, answered.
+    #[tactic(auto, using(crate::proofs::Replies::brought_quietly))]
+    fn answer(&mut self, t: Taking, log: &mut [u8], start: usize) -> Call
+        requires going { self.old.stopped ≡ false }
+        requires room { start + most_bytes ≤ length log.old }
+        ensures answers { left_by result self.new log.new ≡ handing (outcome_of t.taken (closed t self.old)) log.old start }
+        ensures count { result.n < 2 ^ 32 }
+    {
+        match t.brought {
+            Brought::Nothing => answering(Ok(0), false, t.taken),
+            Brought::Unknown => {
+                self.kept.clear();
+                self.stopped = true;
+                answering(Err(Refusal::Malformed), false, t.taken)
+            }
+            Brought::BadFile => {
+                self.kept.clear();
+                answering(Err(Refusal::BadFile), true, t.taken)
+            }
+            Brought::Record => {
+                let a = visiting::visit_accesses(self.kept.bytes(), self.file.bytes(), log, start);
+                self.kept.clear();
+                visited(a, t.taken)
+            }
+        }
+    }
+
+    // A chunk is handed over, with a log buffer from a start on. The call ends with the first record or bad file that finishes, with an
+    // unknown kind, or when the chunk is taken.
+    // Stays: a log and a start, as in the C call; the start may lie past the log's end, and `handed_to` says what is answered then.
+    #[tactic(auto, using(crate::proofs::Calls::has_room))]
+    pub fn read_chunk(&mut self, chunk: &[u8], log: &mut [u8], start: usize) -> Call
+        ensures answers { left_by result self.new log.new ≡ handed_to (checked self.old) chunk.now log.old start }
+        ensures count { result.n < 2 ^ 32 }
+    {
+        self.check();
+        if self.stopped {
+            return answering(Err(Refusal::Malformed), false, 0);
+        }
+        if laws::lacks_room(MOST_BYTES, start, log.len()) {
+            return answering(Err(Refusal::NoRoom(MOST_BYTES)), false, 0);
+        }
+        let t = self.take_items(chunk);
+        self.answer(t, log, start)
+    }
+
+    // What closing answers: a stopped reader is refused, and so is one inside an item.
+    #[tactic(auto, using(crate::proofs::Sound::closes))]
+    pub fn close(&self) -> Result<(), Refusal>
+        ensures { refused_by result ≡ closing_of (checked self.now) }
+    {
+        if self.stopped || !self.is_sound() {
+            return Err(Refusal::Malformed);
+        }
+        if self.kept.bytes().is_empty() {
+            Ok(())
+        } else {
+            Err(Refusal::Cut)
+        }
+    }
 }

@@ -3,8 +3,8 @@
 #![tactic(auto)]
 
 mod chunks; // chunks.rt: a chunk handed over, and closing
+mod held; // held.rt: a reader, and the places of its bytes
 mod items; // items.rt: a chunk taken item by item
 mod kinds; // kinds.rt: the kinds of items and their lengths
 
-pub use chunks::{ITEM_ROOM, Reader, Reply, checked, close_reader, read_chunk};
-pub use items::fill;
+pub use held::{ITEM_ROOM, Numbers, Place, Reader};

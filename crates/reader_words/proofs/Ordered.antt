@@ -1,17 +1,19 @@
 -- The words of a reader, one part after the other. Assumes nothing.
 use Prim.Native.Nat.{ℕ, zero, suc, ◌+◌, ◌≤◌, ◌<◌}
 use native.Mathlib.Omega.{arith}
-use native.Mathlib.Nat.{eq-or-lt_of_le}
-use borrow.Author.Tests.{eq-eqb, ne_eqb}
+use borrow.Author.Tests.{eq-eqb, eqb-true, eqb-false}
 use mathlib.Core.Path.{◌≡◌, refl, sym, ap, ◌∙◌}
-use mathlib.Core.Logic.{⊎_elim}
 use mathlib.Core.List.{List, [], ◌∷◌, ◌++◌, append_assoc}
-use mathlib.Core.Bool.{Bool, true, false, cond, ◌&&◌}
-use lib.ListN.{length, get_or, take, drop, set, replicate, length-append, length-replicate}
-use lib.Seq.{sets, sets-eq, take_at, drop-append-add, length-take-le}
+use mathlib.Core.Bool.{Bool, true, false, cond}
+use lib.ListN.{length, get_or, drop, set, replicate, length-append, length-replicate}
+use lib.Seq.{sets, sets-eq, take_at, drop-append-add, ext_get_or}
+use lib.Dec.{eqb}
+use mir.Val.{bool_byte as from_bool}
+use Rattle.laws.proofs.Choice.{and_left, and_right}
+use Rattle.streams.specs.Streams.{StreamReader}
 use Rattle.reader.specs.Held.{reader_with}
-use Rattle.reader.specs.declared.chunks.Reader.{Reader}
-use Rattle.reader_words.specs.Words.{words_in, words_of, same_words, Placed}
+use Rattle.reader.specs.declared.held.Reader.{Reader}
+use Rattle.reader_words.specs.Words.{reader_words, words_in, words_of, same_words}
 use Rattle.reader_words.proofs.Packing.{words_long}
 
 -- words laid over those behind a front
@@ -39,36 +41,41 @@ module _ (a b : List ℕ) (p : length a ≡ 20) (q : length b ≡ 20) (k h s : �
   pub built : set (set (set (sets (sets (replicate 48 0) 0 a) 20 b) 40 k) 41 h) 42 s ≡ a ++ (b ++ (k ∷ h ∷ s ∷ replicate 5 0))
   built = ap (λ (l : List ℕ). sets (sets l 20 b) 40 (k ∷ h ∷ s ∷ [])) first ∙ ap (λ (l : List ℕ). sets l 40 (k ∷ h ∷ s ∷ [])) second ∙ third
 
--- words that are compared one by one
-module _ (v w : List ℕ) where
-  pub none_compared : same_words v w 0 ≡ true
-  unfolding same_words
-  none_compared = refl
-
-  pub one_same : (i : ℕ) → same_words v w i ≡ true → get_or v i 0 ≡ get_or w i 0 → same_words v w (suc i) ≡ true
-  unfolding same_words
-  one_same i h e = rw (h, eq-eqb (get_or v i 0) (get_or w i 0) e)
-
-  pub one_differs : (i n : ℕ) → i < n → (get_or v i 0 ≡ get_or w i 0 → ⊥) → same_words v w n ≡ false
-  unfolding same_words
-  one_differs i zero h d = absurd (omega arith)
-  one_differs i (suc n) h d =
-      ⊎_elim
-      (λ (e : i ≡ n). rw (ne_eqb (get_or v n 0) (get_or w n 0) (λ (z : get_or v n 0 ≡ get_or w n 0). d (ap (λ (k : ℕ). get_or v k 0) e ∙ z ∙ ap (λ (k : ℕ). get_or w k 0) (sym e)))) (no_more (same_words v w n)))
-      (λ (l : i < n). rw (one_differs i n l d))
-      (eq-or-lt_of_le (omega arith))
-    where
-      no_more : (t : Bool) → (t && false) ≡ false
-      no_more true = refl
-      no_more false = refl
+bit_is : (t : Bool) → from_bool t ≡ cond t 1 0
+bit_is true = refl
+bit_is false = refl
 
 -- the words that are stored one after the other are those of the reader
 pub written :
-    (r : Reader) (item file : List ℕ) → Placed r item file → (v w : List ℕ) (s : ℕ)
-    → v ≡ sets (replicate 48 0) 0 (words_in (take r.kept item)) → w ≡ sets v 20 (words_in (take r.file file)) → s ≡ cond r.stopped 1 0
-    → set (set (set w 40 r.kept) 41 r.file) 42 s ≡ words_of (reader_with r item file)
+    (r : Reader) (v w : List ℕ) (s : ℕ)
+    → v ≡ sets (replicate 48 0) 0 (words_in r.kept) → w ≡ sets v 20 (words_in r.file) → s ≡ from_bool r.stopped
+    → set (set (set w 40 (length r.kept)) 41 (length r.file)) 42 s ≡ words_of (reader_with r)
 unfolding words_of
-written r item file p v w s d e f =
-    let k : length (take r.kept item) ≡ r.kept = length-take-le r.kept item (omega (arith, p.place, p.kept)) in
-    let h : length (take r.file file) ≡ r.file = length-take-le r.file file (omega (arith, p.beside, p.held)) in
-    rw (e, d, f, k, h) (built (words_in (take r.kept item)) (words_in (take r.file file)) (words_long (take r.kept item)) (words_long (take r.file file)) r.kept r.file (cond r.stopped 1 0))
+written r v w s d e f = rw (e, d, f, bit_is r.stopped) (built (words_in r.kept) (words_in r.file) (words_long r.kept) (words_long r.file) (length r.kept) (length r.file) (cond r.stopped 1 0))
+
+pub words_long_lem : (r : StreamReader) → length (words_of r) ≡ reader_words
+unfolding words_of
+words_long_lem r =
+    length-append (words_in r.kept) (words_in r.file ++ (length r.kept ∷ length r.file ∷ cond r.stopped 1 0 ∷ replicate 5 0))
+    ∙ omega (arith, length-append (words_in r.file) (length r.kept ∷ length r.file ∷ cond r.stopped 1 0 ∷ replicate 5 0), words_long r.kept, words_long r.file)
+
+-- WORDS THAT ARE COMPARED
+pub same_as_itself : (w : List ℕ) (n : ℕ) → same_words w w n ≡ true
+unfolding same_words
+same_as_itself w zero = refl
+same_as_itself w (suc n) = rw (same_as_itself w n, eq-eqb (get_or w n 0) (get_or w n 0) refl)
+
+by_last_lem : (v w : List ℕ) (n i : ℕ) → eqb (get_or v n 0) (get_or w n 0) ≡ true → i < suc n → (i < n → get_or v i 0 ≡ get_or w i 0) → get_or v i 0 ≡ get_or w i 0
+by_last_lem v w n i h l rest = go (eqb i n) refl
+  where
+    go : (t : Bool) → eqb i n ≡ t → get_or v i 0 ≡ get_or w i 0
+    go true e = let z : i ≡ n = eqb-true i n e in rw z (eqb-true (get_or v n 0) (get_or w n 0) h)
+    go false e = rest (omega (arith, eqb-false i n e))
+
+pub one_by_one : (v w : List ℕ) (n : ℕ) → same_words v w n ≡ true → (i : ℕ) → i < n → get_or v i 0 ≡ get_or w i 0
+unfolding same_words
+one_by_one v w zero h i l = absurd (omega arith)
+one_by_one v w (suc n) h i l = by_last_lem v w n i (and_right (same_words v w n) _ h) l (λ k. one_by_one v w n (and_left _ _ h) i k)
+
+pub same_lists : (v w : List ℕ) → length v ≡ reader_words → length w ≡ reader_words → same_words v w reader_words ≡ true → v ≡ w
+same_lists v w p q h = ext_get_or 0 v w (p ∙ sym q) (λ i k. one_by_one v w reader_words h i (omega arith))

@@ -8,8 +8,7 @@ use mathlib.Core.List.{List, [], ◌∷◌, ◌++◌, append-nil, append_assoc}
 use lib.ListN.{length, get_or, drop, set, replicate, length-append, drop_of_length-le}
 use lib.Seq.{sets, get_or-drop}
 use Rattle.laws.specs.Words.{number_at, little}
-use Rattle.laws.specs.Lending.{splice}
-use Rattle.laws.proofs.Lending.{part, back, laid, laid_length}
+use Rattle.laws.proofs.Lending.{part, back, laid}
 use Rattle.laws.proofs.Numbers.{little_length}
 use Rattle.registers.specs.Files.{numbers_from}
 use Rattle.reader_words.specs.Words.{place_words, bytes_from, bytes_in, words_in}
@@ -69,11 +68,11 @@ zero_at zero i = refl
 zero_at (suc n) zero = refl
 zero_at (suc n) (suc i) = zero_at n i
 
-pub padded : (n : ℕ) (x : List ℕ) → words_in (splice (replicate n 0) 0 x) ≡ words_in x
-unfolding words_in splice
+pub padded : (n : ℕ) (x : List ℕ) → words_in (x ++ drop (length x) (replicate n 0)) ≡ words_in x
+unfolding words_in
 padded n x =
-    same_numbers (x ++ drop (0 + length x) (replicate n 0)) x
-    (zeros_behind x (drop (0 + length x) (replicate n 0)) (λ j. get_or-drop (0 + length x) (replicate n 0) j 0 ∙ zero_at n (0 + length x + j)))
+    same_numbers (x ++ drop (length x) (replicate n 0)) x
+    (zeros_behind x (drop (length x) (replicate n 0)) (λ j. get_or-drop (length x) (replicate n 0) j 0 ∙ zero_at n (length x + j)))
     0 place_words
 
 -- BYTES FROM WORDS
@@ -108,9 +107,6 @@ one_laid w from old out new i l e =
     ∙ ap (λ (x : List ℕ). x ++ drop (8 * i + 8) old) (sym (ap (bytes_from w from) (add-one i) ∙ bytes_more w from i))
     ∙ ap (λ (k : ℕ). bytes_from w from (i + 1) ++ drop k old) q
 
-pub laid_long : (w : List ℕ) (from : ℕ) (old out : List ℕ) (i : ℕ) → 8 * i ≤ length old → Laid w from old out i → length out ≡ length old
-laid_long w from old out i h l = ap length l ∙ laid_length (bytes_from w from i) old (bytes_long w from i) h
-
 pub all_laid : (w : List ℕ) (from : ℕ) (old out : List ℕ) (i : ℕ) → i ≡ place_words → length old ≤ 8 * place_words → Laid w from old out i → out ≡ bytes_in w from
 unfolding bytes_in
 all_laid w from old out i e h l =
@@ -118,3 +114,7 @@ all_laid w from old out i e h l =
     ∙ ap (λ (k : ℕ). bytes_from w from k ++ drop (8 * k) old) e
     ∙ ap (λ (x : List ℕ). bytes_from w from place_words ++ x) (drop_of_length-le old h)
     ∙ append-nil (bytes_from w from place_words)
+
+pub ruleset storing = (none_stored, one_stored)
+
+pub ruleset laying = (none_laid, one_laid)

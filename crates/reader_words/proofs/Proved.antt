@@ -2,28 +2,29 @@
 use Prim.Native.Nat.{ℕ, zero, suc, ◌+◌, ◌-◌, ◌*◌, ◌/◌, ◌%◌, ◌≤◌, ◌<◌}
 use native.Mathlib.Nat.{add-zero, zero-add}
 use native.Mathlib.Omega.{arith}
-use borrow.Author.Tests.{eq-eqb, lt-ltb, eqb-true, eqb-false}
+use borrow.Author.Tests.{eq-eqb, lt-ltb}
 use mathlib.Core.Path.{◌≡◌, refl, sym, ap, ap₂, ◌∙◌}
 use mathlib.Core.Logic.{⊎_elim, ◌⊎◌, inl, inr}
 use mathlib.Core.List.{List, [], ◌∷◌, ◌++◌}
 use mathlib.Core.Bool.{Bool, true, false, cond, not, ◌||◌}
-use lib.ListN.{length, get_or, take, replicate, length-append, get_or-append}
-use lib.Seq.{get_or-append-add, ext_get_or}
+use lib.ListN.{length, get_or, take, replicate, get_or-append}
+use lib.Seq.{get_or-append-add}
 use lib.Dec.{eqb}
 use Rattle.laws.specs.Words.{number_at, little}
-use Rattle.laws.proofs.Choice.{and_left, and_right}
 use Rattle.registers.specs.Files.{numbers_from, is_file}
 use Rattle.event.specs.Held.{Bytes}
 use Rattle.streams.specs.Cuts.{halted}
 use Rattle.streams.specs.Streams.{length_of, StreamReader, fresh, feed}
 use Rattle.streams.specs.Promises.{Sound}
 use Rattle.streams.proofs.Proved.{fresh_is_sound, calls_take, bytes_stay}
-use Rattle.reader.specs.Held.{item_room, is_part, is_latest, holds_part, holds_file, reader_in, handed_to}
+use Rattle.reader.specs.Places.{item_room}
+use Rattle.reader.specs.Held.{is_part, is_latest, holds_part, holds_file, reader_in, handed_to}
 use Rattle.reader.proofs.Sound.{kind_short, file_short}
 use Rattle.reader_words.specs.Words.{reader_words, place_words, bytes_from, bytes_in, words_in, words_of, told_by, same_words, reader_by}
 use Rattle.reader_words.specs.Promises as promised
 use Rattle.reader_words.proofs.Packing.{words_long}
 use Rattle.reader_words.proofs.Holding.{place_long}
+use Rattle.reader_words.proofs.Ordered.{words_long_lem, same_as_itself, same_lists}
 
 -- THE BYTES OF WORDS OF BYTES. The n bytes from place i on, 0 past the end
 unfoldable gets : List ℕ → ℕ → ℕ → List ℕ
@@ -118,9 +119,6 @@ module _ (r : StreamReader) where
       ap (λ (k : ℕ). get_or w k 0) e ∙ behind (place_words + i)
       ∙ ap (λ (n : ℕ). get_or (B ++ C) (n + i) 0) (sym (words_long r.file)) ∙ get_or-append-add B C i 0
 
-  pub long_words : length (words_of r) ≡ reader_words
-  long_words = ap length words_are ∙ length-append A (B ++ C) ∙ omega (arith, length-append B C, words_long r.kept, words_long r.file)
-
   stopped_is : not (eqb (get_or w 42 0) 0) ≡ r.stopped
   stopped_is = ap (λ (n : ℕ). not (eqb n 0)) (in_third 2) ∙ go r.stopped
     where
@@ -165,11 +163,6 @@ module _ (r : StreamReader) where
         rw (eq-eqb (length (bytes_in w 0)) item_room (place_long w 0), eq-eqb (length (bytes_in w place_words)) item_room (place_long w place_words), kept_is, file_is, part_is, latest_is)
         (ap (λ (t : Bool). record { kept = r.kept; file = r.file; stopped = t }) stopped_is)
 
-same_as_itself : (w : List ℕ) (n : ℕ) → same_words w w n ≡ true
-unfolding same_words
-same_as_itself w zero = refl
-same_as_itself w (suc n) = rw (same_as_itself w n, eq-eqb (get_or w n 0) (get_or w n 0) refl)
-
 pub words_are_kept : promised.WordsAreKept
 unfolding reader_by
 words_are_kept r s hk hf =
@@ -189,18 +182,6 @@ calls_go_on r c log start s hk hf hc =
     let b = bytes_stay r c room s.parted hk hf hc in
     words_are_kept (feed r c room).next (calls_take r c room s).1 b.0 b.1
 
-by_last_lem : (v w : List ℕ) (n i : ℕ) → eqb (get_or v n 0) (get_or w n 0) ≡ true → i < suc n → (i < n → get_or v i 0 ≡ get_or w i 0) → get_or v i 0 ≡ get_or w i 0
-by_last_lem v w n i h l rest = go (eqb i n) refl
-  where
-    go : (t : Bool) → eqb i n ≡ t → get_or v i 0 ≡ get_or w i 0
-    go true e = let z : i ≡ n = eqb-true i n e in rw z (eqb-true (get_or v n 0) (get_or w n 0) h)
-    go false e = rest (omega (arith, eqb-false i n e))
-
-one_by_one : (v w : List ℕ) (n : ℕ) → same_words v w n ≡ true → (i : ℕ) → i < n → get_or v i 0 ≡ get_or w i 0
-unfolding same_words
-one_by_one v w zero h i l = absurd (omega arith)
-one_by_one v w (suc n) h i l = by_last_lem v w n i (and_right (same_words v w n) _ h) l (λ k. one_by_one v w n (and_left _ _ h) i k)
-
 pub other_words_stop : promised.OtherWordsStop
 unfolding reader_by
 other_words_stop w l = go (same_words (words_of (told_by w)) w reader_words) refl
@@ -208,8 +189,7 @@ other_words_stop w l = go (same_words (words_of (told_by w)) w reader_words) ref
     go : (t : Bool) → same_words (words_of (told_by w)) w reader_words ≡ t
         → (words_of (cond t (told_by w) (halted [])) ≡ w) ⊎ (cond t (told_by w) (halted []) ≡ halted [])
     go true e =
-        let n = long_words (told_by w) in
-        inl (ext_get_or 0 (words_of (told_by w)) w (n ∙ sym l) (λ i k. one_by_one (words_of (told_by w)) w reader_words e i (omega arith)))
+        inl (same_lists (words_of (told_by w)) w (words_long_lem (told_by w)) l e)
     go false e = inr refl
 
 bit_small : (t : Bool) → cond t 1 0 < 2

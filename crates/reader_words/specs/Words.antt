@@ -1,14 +1,14 @@
 -- A reader as the 48 words that a C caller keeps: 20 words of the unfinished item's bytes and 20 of the latest good file's, lowest byte
 -- first and zero bytes behind; how many bytes each has; 1 where the reader has stopped; and words that are 0.
-use Rattle.std.specs.Prelude.{ℕ, zero, suc, ◌+◌, ◌≤◌, ◌≡◌, List, [], ◌∷◌, ◌++◌, Bool, true, cond, not, ◌&&◌, length, get_or, replicate, eqb}
+use Rattle.std.specs.Prelude.{ℕ, zero, suc, ◌+◌, List, [], ◌∷◌, ◌++◌, Bool, true, cond, not, ◌&&◌, length, get_or, replicate, eqb}
 use Rattle.laws.specs.Words.{little}
 use Rattle.registers.specs.Files.{numbers_from}
 use Rattle.answers.specs.Answers.{at}
 use Rattle.streams.specs.Cuts.{halted}
 use Rattle.streams.specs.Streams.{StreamReader, fresh, close}
 use Rattle.streams.specs.declared.Call.{Call}
-use Rattle.reader.specs.Held.{item_room, reader_in, Handed}
-use Rattle.reader.specs.declared.chunks.Reader.{Reader}
+use Rattle.reader.specs.Held.{reader_in, Handed}
+use Rattle.reader.specs.declared.held.Numbers.{Numbers}
 
 abbrev pub reader_words : ℕ
 reader_words = 48
@@ -34,7 +34,7 @@ words_of r =
     words_in r.kept ++ (words_in r.file ++ (length r.kept ∷ length r.file ∷ cond r.stopped 1 0 ∷ replicate 5 0))
 
 -- the reader that words tell of
-abbrev pub numbers_in : List ℕ → Reader
+abbrev pub numbers_in : List ℕ → Numbers
 numbers_in w = record { kept = get_or w 40 0; file = get_or w 41 0; stopped = not (eqb (get_or w 42 0) 0) }
 
 unfoldable pub told_by : List ℕ → StreamReader
@@ -52,13 +52,6 @@ reader_by w = cond (same_words (words_of (told_by w)) w reader_words) (told_by w
 -- reader_read: 0-7 number, 8-23 the opcode after 4, 24 finished, 32-63 the log's length, or after 7 the bytes needed
 abbrev pub call_bits : Call → ℕ
 call_bits a = a.number + at 8 a.opcode + at 24 (cond a.finished 1 0) + at 32 a.n
-
--- the numbers lie in the places
-pub record Placed (r : Reader) (item file : List ℕ) : Type 0 where
-  pub place : length item ≡ item_room
-  pub beside : length file ≡ item_room
-  pub kept : r.kept ≤ item_room
-  pub held : r.file ≤ item_room
 
 -- what a call leaves: its number, the bytes taken, the reader's words and the log buffer
 abbrev pub handed_words : Handed → ℕ × ℕ × List ℕ × List ℕ

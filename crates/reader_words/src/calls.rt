@@ -3,22 +3,22 @@ ghost use Rattle.std.specs.Prelude.{◌≡◌, ◌^◌, ◌<◌};
 ghost use Rattle.reader.specs.Held.{handed_to};
 ghost use Rattle.reader_words.specs.Words.{reader_by, call_bits, handed_words, fresh_words, closed_words};
 
-use crate::places::{PLACE_WORDS, unpack};
 use crate::words::{reader_in, words_of};
-use reader::ITEM_ROOM;
 use streams::Call;
 
+// Stays: no From, which has no `requires`: n must lie in its bits. `as` is for a usize, which has no From to u64.
 fn call_bits(call: Call) -> u64
     requires { call.n < 2 ^ 32 }
     ensures { result ≡ call_bits call }
 {
-    let finished = crate::words::bit(call.finished);
-    (call.number as u64)
-        + (call.opcode as u64) * 0x100
-        + finished * 0x100_0000
+    u64::from(call.number)
+        + u64::from(call.opcode) * 0x100
+        + u64::from(call.finished) * 0x100_0000
         + (call.n as u64) * 0x1_0000_0000
 }
 
+// Stays: a number, as the C call answers it; so does `close_words`.
+#[tactic(auto, using(crate::proofs::Holding::fresh_words_lem))]
 pub fn new_words(reader: &mut [u64; 48]) -> u64
     ensures { (result, reader.new) ≡ fresh_words }
 {
@@ -36,15 +36,9 @@ pub fn read_words(
     ensures { (result, taken.new, reader.new, log.new)
         ≡ handed_words (handed_to (reader_by reader.old) chunk.now log.old start) }
 {
-    let mut item = [0u8; ITEM_ROOM];
-    unpack(reader, 0, &mut item);
-    let mut file = [0u8; ITEM_ROOM];
-    unpack(reader, PLACE_WORDS, &mut file);
-    let held = reader_in(reader, &item, &file);
-    let reply = reader::read_chunk(held, &mut item, &mut file, chunk, log, start);
-    let after = reply.reader;
-    *reader = words_of(after, &item, &file);
-    let call = reply.call;
+    let mut held = reader_in(reader);
+    let call = held.read_chunk(chunk, log, start);
+    *reader = words_of(&held);
     *taken = call.taken as u64;
     call_bits(call)
 }
@@ -52,12 +46,10 @@ pub fn read_words(
 pub fn close_words(reader: &mut [u64; 48]) -> u64
     ensures { (result, reader.new) ≡ closed_words (reader_by reader.old) }
 {
-    let mut item = [0u8; ITEM_ROOM];
-    unpack(reader, 0, &mut item);
-    let mut file = [0u8; ITEM_ROOM];
-    unpack(reader, PLACE_WORDS, &mut file);
-    let held = reader_in(reader, &item, &file);
-    let number = reader::close_reader(held, &item, &file);
+    let closed = reader_in(reader).close();
     *reader = [0; 48];
-    number as u64
+    match closed {
+        Ok(()) => 0,
+        Err(refusal) => u64::from(u8::from(refusal)),
+    }
 }

@@ -4,6 +4,7 @@
 
 // The answer of one call. Whether a record or a bad file finished, and how many bytes of the chunk are taken; n is the log's length, or
 // after 7 the bytes needed; the opcode is 0 but after 4.
+// Stays: the numbers of a C answer; CallUnpacks and CallsTake speak of the number, n and the opcode each by itself.
 #[derive(Clone, Copy)]
 pub struct Call {
     pub number: u8,
