@@ -73,6 +73,7 @@ impl Place {
 
 // What is told of a reader beside the bytes of its places: how many are kept of the unfinished item and of the latest good file, 0 for
 // none, and whether an unknown kind was met.
+// Stays: numbers and a flag beside bytes, any of them, as the words of a caller tell them; `Reader::of` makes places of them.
 #[derive(Clone, Copy)]
 pub struct Numbers {
     pub kept: usize,
