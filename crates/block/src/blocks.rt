@@ -63,9 +63,7 @@ pub fn visit_block(
         ≡ block_call each records.now file.now log.old start answers.old }
 {
     let list = RecordList::new(records, each)?;
-    if registers::refusal_of(file) != 0 {
-        return Err(Refusal::BadFile);
-    }
+    registers::check(file)?;
     if answers.len() < ANSWER_BYTES * list.count() {
         return Err(Refusal::NoRoom(0));
     }

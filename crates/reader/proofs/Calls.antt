@@ -14,7 +14,7 @@ use Rattle.streams.specs.Cuts.{waits, fed_from}
 use Rattle.streams.specs.Streams.{length_of, meaning, StreamReader, Outcome, unfinished, outcome_of, feed}
 use Rattle.streams.proofs.Proved.{stopped_stays, early_seven}
 use Rattle.streams.specs.declared.Call.{Call}
-use Rattle.reader.specs.Held.{reader_with, reader_in, Handed, handing, handed_to, left_by}
+use Rattle.reader.specs.Held.{reader_with, checked, Handed, handing, handed_to, left_by}
 use Rattle.reader.specs.Items.{onward, closed, doing, goes_on, taking, Through}
 use Rattle.reader.specs.Chunks.{calling}
 use Rattle.reader.specs.declared.held.Reader.{Reader}
@@ -83,20 +83,20 @@ unfolding onward
 begins r c = ahead_none (fed_from length_of meaning r.file r.kept c)
 
 -- the same of a reader that was checked
-module _ (r s : Reader) (c log : List ℕ) (start : ℕ) (e : reader_with s ≡ reader_in r) (a : Call) where
-  as_checked : (h : Handed) → h ≡ handed_to (reader_with s) c log start → h ≡ handed_to (reader_in r) c log start
+module _ (r s : Reader) (c log : List ℕ) (start : ℕ) (e : reader_with s ≡ checked r) (a : Call) where
+  as_checked : (h : Handed) → h ≡ handed_to (reader_with s) c log start → h ≡ handed_to (checked r) c log start
   as_checked h p = p ∙ ap (λ (x : StreamReader). handed_to x c log start) e
 
-  pub stopped_reader : s.stopped ≡ true → a ≡ calling 1 false 0 0 0 → left_by a s log ≡ handed_to (reader_in r) c log start
+  pub stopped_reader : s.stopped ≡ true → a ≡ calling 1 false 0 0 0 → left_by a s log ≡ handed_to (checked r) c log start
   stopped_reader h q = as_checked _ (rw q (stopped_reply (reader_with s) c log start h))
 
   pub early_reader :
       s.stopped ≡ false → lacks_room most_bytes start (length log) ≡ true → a ≡ calling 7 false 0 most_bytes 0
-      → left_by a s log ≡ handed_to (reader_in r) c log start
+      → left_by a s log ≡ handed_to (checked r) c log start
   early_reader h k q = as_checked _ (rw q (early_reply (reader_with s) c log start h k))
 
   pub chunk_reader :
       (u : Taking) (v w : Reader) (b : List ℕ) → s.stopped ≡ false → lacks_room most_bytes start (length log) ≡ false → Through u (length c)
       → closed u v ≡ onward (taking Nothing 0) s c → left_by a w b ≡ handing (outcome_of u.taken (closed u v)) log start
-      → left_by a w b ≡ handed_to (reader_in r) c log start
+      → left_by a w b ≡ handed_to (checked r) c log start
   chunk_reader u v w b h k t m q = as_checked _ (q ∙ chunk_reply (reader_with s) c log start u v h k t (m ∙ begins s c))

@@ -32,7 +32,7 @@ module _ {F A : Type 0} where
   ahead_ahead n m (stops f k) = ap (λ (i : ℕ). stops f i) (sym (add_assoc n m k))
 
 -- the first byte of more is that of what was there
-pub head_stays : (x y : List ℕ) → 0 < length x → get_or (x ++ y) 0 0 ≡ get_or x 0 0
+head_stays : (x y : List ℕ) → 0 < length x → get_or (x ++ y) 0 0 ≡ get_or x 0 0
 head_stays [] y h = absurd (omega arith)
 head_stays (b ∷ l) y h = refl
 

@@ -47,6 +47,13 @@ pub record Turn (t : Taking) (r : Reader) (c rest : List ℕ) (kind long : ℕ) 
   pub kinds : kind ≡ get_or (r.kept ++ (get_or rest 0 0 ∷ [])) 0 0
   pub lengths : long ≡ length_of kind
 
+pub turn :
+    (t : Taking) (r : Reader) (c : List ℕ) {kind long : ℕ}
+    → PartIn t.brought r.kept → goes_on t (length c) ≡ true
+    → kind ≡ get_or (r.kept ++ (get_or (take (length c - t.taken) (drop t.taken c)) 0 0 ∷ [])) 0 0 → long ≡ length_of kind
+    → Turn t r c (take (length c - t.taken) (drop t.taken c)) kind long
+turn t r c part goes kinds lengths = record { part = part; goes = goes; is = refl; kinds = kinds; lengths = lengths }
+
 -- the bytes that a turn takes: some, none past the chunk's end or the item's
 pub some_taken : (long kept at end rest n : ℕ) → rest ≡ end - at → n ≡ min rest (long - kept) → kept < long → at < end → (0 < n) × (at + n ≤ end) × (kept + n ≤ long)
 some_taken long kept at end rest n r e h k = (omega arith, omega arith, omega arith)

@@ -5,7 +5,7 @@ ghost use Rattle.definition.specs.Limits.{most_bytes};
 ghost use Rattle.definition.specs.Visits.{number_of, opcode_of, count_of};
 ghost use Rattle.streams.specs.Cuts.{closing_of};
 ghost use Rattle.streams.specs.Streams.{outcome_of};
-ghost use Rattle.reader.specs.Held.{is_part, is_latest, reader_with, reader_in, handing, handed_to, left_by};
+ghost use Rattle.reader.specs.Held.{is_part, is_latest, reader_with, checked, handing, handed_to, left_by};
 ghost use Rattle.reader.specs.Items.{PartIn, closed};
 ghost use Rattle.reader.specs.Chunks.{answering, calling, Going};
 
@@ -81,7 +81,7 @@ impl Reader {
     // A stopped reader, where the bytes are none of a reader.
     #[tactic(auto, using(crate::proofs::Sound::checks))]
     fn check(&mut self)
-        ensures same { reader_with self.new ≡ reader_in self.old }
+        ensures same { reader_with self.new ≡ checked self.old }
         ensures going { Going self.new }
     {
         if !self.is_sound() {
@@ -123,7 +123,7 @@ impl Reader {
     // Stays: a log and a start, as in the C call; the start may lie past the log's end, and `handed_to` says what is answered then.
     #[tactic(auto, using(crate::proofs::Calls::has_room))]
     pub fn read_chunk(&mut self, chunk: &[u8], log: &mut [u8], start: usize) -> Call
-        ensures answers { left_by result self.new log.new ≡ handed_to (reader_in self.old) chunk.now log.old start }
+        ensures answers { left_by result self.new log.new ≡ handed_to (checked self.old) chunk.now log.old start }
         ensures count { result.n < 2 ^ 32 }
     {
         self.check();
@@ -140,7 +140,7 @@ impl Reader {
     // What closing answers: a stopped reader is refused, and so is one inside an item.
     #[tactic(auto, using(crate::proofs::Sound::closes))]
     pub fn close(&self) -> Result<(), Refusal>
-        ensures { refused_by result ≡ closing_of (reader_in self.now) }
+        ensures { refused_by result ≡ closing_of (checked self.now) }
     {
         if self.stopped || !self.is_sound() {
             return Err(Refusal::Malformed);

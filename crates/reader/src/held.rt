@@ -1,6 +1,8 @@
 // A reader as the code holds it: two places of bytes, for the unfinished item and for the latest good file, and whether it has stopped.
 ghost use Rattle.std.specs.Prelude.{◌≡◌, [], ◌++◌, ◌+◌, ◌≤◌, length};
+ghost use Rattle.streams.specs.Cuts.{halted};
 ghost use Rattle.reader.specs.Places.{item_room, front_of};
+ghost use Rattle.reader.specs.Held.{reader_with, reader_in, checked};
 
 use std::marker::Model;
 
@@ -34,17 +36,16 @@ impl Place {
         }
     }
 
-    // The first n bytes, where there are so many.
-    pub fn front(bytes: [u8; ITEM_ROOM], n: usize) -> Option<Place>
-        ensures { result ≡ front_of bytes n }
+    // The first n bytes of a place's, where they are so many as a place has and n is no more.
+    pub fn front(bytes: &[u8], n: usize) -> Option<Place>
+        ensures { result ≡ front_of bytes.now n }
     {
-        if n > ITEM_ROOM {
+        if bytes.len() != ITEM_ROOM || n > ITEM_ROOM {
             return None;
         }
-        Some(Place {
-            room: bytes,
-            used: n,
-        })
+        let mut place = Place::new();
+        place.add(&bytes[..n]);
+        Some(place)
     }
 
     pub fn bytes(&self) -> &[u8]
@@ -70,6 +71,16 @@ impl Place {
     }
 }
 
+// What is told of a reader beside the bytes of its places: how many are kept of the unfinished item and of the latest good file, 0 for
+// none, and whether an unknown kind was met.
+// Stays: numbers and a flag beside bytes, any of them, as the words of a caller tell them; `Reader::of` makes places of them.
+#[derive(Clone, Copy)]
+pub struct Numbers {
+    pub kept: usize,
+    pub file: usize,
+    pub stopped: bool,
+}
+
 // The kept bytes of the unfinished item, the latest good file's bytes, none where there is none, and whether an unknown kind was met.
 // Stays: a flag beside the bytes; a stopped reader keeps its file, and WordsAreKept reads that back from its words.
 #[derive(Drop)]
@@ -77,4 +88,35 @@ pub struct Reader {
     pub kept: Place,
     pub file: Place,
     pub stopped: bool,
+}
+
+impl Reader {
+    // A stopped reader without bytes.
+    pub fn halted() -> Reader
+        ensures { reader_with result ≡ halted [] }
+    {
+        Reader {
+            kept: Place::new(),
+            file: Place::new(),
+            stopped: true,
+        }
+    }
+
+    // The reader that numbers and the bytes of two places hold. Any numbers and bytes are one: what holds none counts as a stopped one.
+    #[tactic(auto, using(crate::proofs::Sound::holding))]
+    pub fn of(r: Numbers, item: &[u8], file: &[u8]) -> Reader
+        ensures { checked result ≡ reader_in r item.now file.now }
+    {
+        let Some(kept) = Place::front(item, r.kept) else {
+            return Reader::halted();
+        };
+        let Some(file) = Place::front(file, r.file) else {
+            return Reader::halted();
+        };
+        Reader {
+            kept,
+            file,
+            stopped: r.stopped,
+        }
+    }
 }

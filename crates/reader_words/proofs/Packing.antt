@@ -8,7 +8,7 @@ use mathlib.Core.List.{List, [], ◌∷◌, ◌++◌, append-nil, append_assoc}
 use lib.ListN.{length, get_or, drop, set, replicate, length-append, drop_of_length-le}
 use lib.Seq.{sets, get_or-drop}
 use Rattle.laws.specs.Words.{number_at, little}
-use Rattle.laws.proofs.Lending.{part, back, laid, laid_length}
+use Rattle.laws.proofs.Lending.{part, back, laid}
 use Rattle.laws.proofs.Numbers.{little_length}
 use Rattle.registers.specs.Files.{numbers_from}
 use Rattle.reader_words.specs.Words.{place_words, bytes_from, bytes_in, words_in}
@@ -106,9 +106,6 @@ one_laid w from old out new i l e =
     laid (bytes_from w from i) (little 8 (get_or w (from + i) 0)) old 8 (bytes_long w from i) l e
     ∙ ap (λ (x : List ℕ). x ++ drop (8 * i + 8) old) (sym (ap (bytes_from w from) (add-one i) ∙ bytes_more w from i))
     ∙ ap (λ (k : ℕ). bytes_from w from (i + 1) ++ drop k old) q
-
-pub laid_long : (w : List ℕ) (from : ℕ) (old out : List ℕ) (i : ℕ) → 8 * i ≤ length old → Laid w from old out i → length out ≡ length old
-laid_long w from old out i h l = ap length l ∙ laid_length (bytes_from w from i) old (bytes_long w from i) h
 
 pub all_laid : (w : List ℕ) (from : ℕ) (old out : List ℕ) (i : ℕ) → i ≡ place_words → length old ≤ 8 * place_words → Laid w from old out i → out ≡ bytes_in w from
 unfolding bytes_in

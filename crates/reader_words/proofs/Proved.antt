@@ -18,11 +18,12 @@ use Rattle.streams.specs.Streams.{length_of, StreamReader, fresh, feed}
 use Rattle.streams.specs.Promises.{Sound}
 use Rattle.streams.proofs.Proved.{fresh_is_sound, calls_take, bytes_stay}
 use Rattle.reader.specs.Places.{item_room}
-use Rattle.reader.specs.Held.{is_part, is_latest, reader_in, handed_to}
+use Rattle.reader.specs.Held.{is_part, is_latest, holds_part, holds_file, reader_in, handed_to}
 use Rattle.reader.proofs.Sound.{kind_short, file_short}
 use Rattle.reader_words.specs.Words.{reader_words, place_words, bytes_from, bytes_in, words_in, words_of, told_by, same_words, reader_by}
 use Rattle.reader_words.specs.Promises as promised
 use Rattle.reader_words.proofs.Packing.{words_long}
+use Rattle.reader_words.proofs.Holding.{place_long}
 use Rattle.reader_words.proofs.Ordered.{words_long_lem, same_as_itself, same_lists}
 
 -- THE BYTES OF WORDS OF BYTES. The n bytes from place i on, 0 past the end
@@ -157,9 +158,9 @@ module _ (r : StreamReader) where
         either_true false = refl
 
     told_is : told_by w ≡ r
-    unfolding told_by reader_in
+    unfolding told_by reader_in holds_part holds_file
     told_is =
-        rw (kept_is, file_is, part_is, latest_is)
+        rw (eq-eqb (length (bytes_in w 0)) item_room (place_long w 0), eq-eqb (length (bytes_in w place_words)) item_room (place_long w place_words), kept_is, file_is, part_is, latest_is)
         (ap (λ (t : Bool). record { kept = r.kept; file = r.file; stopped = t }) stopped_is)
 
 pub words_are_kept : promised.WordsAreKept

@@ -1,15 +1,14 @@
 -- A reader as the 48 words that a C caller keeps: 20 words of the unfinished item's bytes and 20 of the latest good file's, lowest byte
 -- first and zero bytes behind; how many bytes each has; 1 where the reader has stopped; and words that are 0.
-use Rattle.std.specs.Prelude.{ℕ, zero, suc, ◌+◌, List, [], ◌∷◌, ◌++◌, Bool, true, cond, not, ◌&&◌, ◌||◌, length, get_or, take, replicate, eqb, ltb, Option, None, Some}
+use Rattle.std.specs.Prelude.{ℕ, zero, suc, ◌+◌, List, [], ◌∷◌, ◌++◌, Bool, true, cond, not, ◌&&◌, length, get_or, replicate, eqb}
 use Rattle.laws.specs.Words.{little}
 use Rattle.registers.specs.Files.{numbers_from}
 use Rattle.answers.specs.Answers.{at}
 use Rattle.streams.specs.Cuts.{halted}
 use Rattle.streams.specs.Streams.{StreamReader, fresh, close}
 use Rattle.streams.specs.declared.Call.{Call}
-use Rattle.reader.specs.Places.{item_room}
 use Rattle.reader.specs.Held.{reader_in, Handed}
-use Rattle.reader.specs.declared.held.Reader.{Reader}
+use Rattle.reader.specs.declared.held.Numbers.{Numbers}
 
 abbrev pub reader_words : ℕ
 reader_words = 48
@@ -34,22 +33,12 @@ unfoldable pub words_of : StreamReader → List ℕ
 words_of r =
     words_in r.kept ++ (words_in r.file ++ (length r.kept ∷ length r.file ∷ cond r.stopped 1 0 ∷ replicate 5 0))
 
--- the bytes that words tell of, as a reader has them, and whether it has stopped
-abbrev pub numbers_in : List ℕ → Reader
-numbers_in w =
-    record {
-      kept = take (get_or w 40 0) (bytes_in w 0);
-      file = take (get_or w 41 0) (bytes_in w place_words);
-      stopped = not (eqb (get_or w 42 0) 0);
-    }
-
--- none where more bytes are told of than a place has
-abbrev pub told_in : List ℕ → Option Reader
-told_in w = cond (ltb item_room (get_or w 40 0) || ltb item_room (get_or w 41 0)) None (Some (numbers_in w))
-
 -- the reader that words tell of
+abbrev pub numbers_in : List ℕ → Numbers
+numbers_in w = record { kept = get_or w 40 0; file = get_or w 41 0; stopped = not (eqb (get_or w 42 0) 0) }
+
 unfoldable pub told_by : List ℕ → StreamReader
-told_by w = reader_in (numbers_in w)
+told_by w = reader_in (numbers_in w) (bytes_in w 0) (bytes_in w place_words)
 
 -- the first n words are the same
 unfoldable pub same_words : List ℕ → List ℕ → ℕ → Bool

@@ -26,6 +26,7 @@ pub fn new_words(reader: &mut [u64; 48]) -> u64
     0
 }
 
+// Stays: a log and a start, as the C call has them.
 pub fn read_words(
     reader: &mut [u64; 48],
     chunk: &[u8],

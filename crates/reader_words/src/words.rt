@@ -1,10 +1,10 @@
 // A reader as the words that a C caller keeps.
-ghost use Rattle.std.specs.Prelude.{◌≡◌, Option, None, Some};
-ghost use Rattle.reader.specs.Held.{reader_with, reader_in};
-ghost use Rattle.reader_words.specs.Words.{words_of, reader_by, told_in};
+ghost use Rattle.std.specs.Prelude.{◌≡◌};
+ghost use Rattle.reader.specs.Held.{reader_with, checked};
+ghost use Rattle.reader_words.specs.Words.{words_of, reader_by};
 
 use crate::places::{PLACE_WORDS, pack, unpack};
-use reader::{Place, Reader};
+use reader::{Numbers, Reader};
 
 // Where the numbers stand: how many bytes each place has, and whether the reader has stopped.
 const KEPT: usize = 40;
@@ -30,31 +30,19 @@ pub fn words_of(r: &Reader) -> [u64; 48]
     words
 }
 
-// The reader that words tell of, where its places have so many bytes.
-fn told_in(words: &[u64; 48]) -> Option<Reader>
-    ensures { result ≡ told_in words.now }
-{
-    let kept = Place::front(unpack(words, 0), words[KEPT] as usize)?;
-    let file = Place::front(unpack(words, PLACE_WORDS), words[FILE] as usize)?;
-    Some(Reader {
-        kept,
-        file,
-        stopped: words[STOPPED] != 0,
-    })
-}
-
 // The reader that words are; a stopped one where they are those of no reader.
 pub fn reader_in(words: &[u64; 48]) -> Reader
-    ensures { reader_in result ≡ reader_by words.now }
+    ensures { checked result ≡ reader_by words.now }
 {
-    if let Some(told) = told_in(words) {
-        if words_of(&told) == *words {
-            return told;
-        }
-    }
-    Reader {
-        kept: Place::new(),
-        file: Place::new(),
-        stopped: true,
+    let told = Numbers {
+        kept: words[KEPT] as usize,
+        file: words[FILE] as usize,
+        stopped: words[STOPPED] != 0,
+    };
+    let reader = Reader::of(told, &unpack(words, 0), &unpack(words, PLACE_WORDS));
+    if words_of(&reader) == *words {
+        reader
+    } else {
+        Reader::halted()
     }
 }

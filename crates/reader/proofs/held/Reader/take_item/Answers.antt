@@ -1,5 +1,5 @@
 use Rattle.std.proofs.Common.{arith, rules, refl, length}
-use Rattle.reader.proofs.Turns.{Turn, going, unknown_here, unknown_ends, below, taken_on, part_taken, whole_taken}
+use Rattle.reader.proofs.Turns.{turn, going, unknown_here, unknown_ends, below, taken_on, part_taken, whole_taken}
 use Rattle.reader.proofs.held.Reader.take_item.Goals as goal
 
 pub slice_bounds-rest-count : goal.slice_bounds-rest-count
@@ -13,8 +13,7 @@ bounds-rest-0 c = let h = (going c.args.t (length c.args.chunk.now) c.requires.g
 
 pub returns-then-long-eq0-clause-means : goal.returns-then-long-eq0-clause-means
 returns-then-long-eq0-clause-means c =
-    let u : Turn c.args.t c.args.self.now c.args.chunk.now _ c.kind_of.result c.length_of-long.result =
-    record { part = c.requires.part; goes = c.requires.going; is = refl; kinds = c.kind_of.ensures; lengths = c.length_of-long.ensures.0 } in
+    let u = turn c.args.t c.args.self.now c.args.chunk.now c.requires.part c.requires.going c.kind_of.ensures c.length_of-long.ensures.long in
     unknown_here u c.if-long-eq0.true
 
 pub returns-then-long-eq0-clause-less : goal.returns-then-long-eq0-clause-less
@@ -23,33 +22,28 @@ returns-then-long-eq0-clause-less c =
 
 pub overflow_sub-long : goal.overflow_sub-long
 overflow_sub-long c =
-    let u : Turn c.args.t c.args.self.now c.args.chunk.now _ c.kind_of.result c.length_of-long.result =
-    record { part = c.requires.part; goes = c.requires.going; is = refl; kinds = c.kind_of.ensures; lengths = c.length_of-long.ensures.0 } in
+    let u = turn c.args.t c.args.self.now c.args.chunk.now c.requires.part c.requires.going c.kind_of.ensures c.length_of-long.ensures.long in
     rw c.bytes.ensures.kept (omega (arith, below u c.if-long-eq0.false))
 
 pub returns-then-bytes-long-clause-means : goal.returns-then-bytes-long-clause-means
 returns-then-bytes-long-clause-means c =
-    let u : Turn c.args.t c.args.self.now c.args.chunk.now _ c.kind_of.result c.length_of-long.result =
-    record { part = c.requires.part; goes = c.requires.going; is = refl; kinds = c.kind_of.ensures; lengths = c.length_of-long.ensures.0 } in
+    let u = turn c.args.t c.args.self.now c.args.chunk.now c.requires.part c.requires.going c.kind_of.ensures c.length_of-long.ensures.long in
     part_taken u c.min-n.result (rw c.bytes.ensures.kept at c.min-n.ensures) c.if-long-eq0.false _ refl c.add.ensures
     (rw c.bytes-2.ensures.kept at c.if-bytes-long.true)
 
 pub returns-then-bytes-long-clause-less : goal.returns-then-bytes-long-clause-less
 returns-then-bytes-long-clause-less c =
-    let u : Turn c.args.t c.args.self.now c.args.chunk.now _ c.kind_of.result c.length_of-long.result =
-    record { part = c.requires.part; goes = c.requires.going; is = refl; kinds = c.kind_of.ensures; lengths = c.length_of-long.ensures.0 } in
+    let u = turn c.args.t c.args.self.now c.args.chunk.now c.requires.part c.requires.going c.kind_of.ensures c.length_of-long.ensures.long in
     taken_on u c.min-n.result (rw c.bytes.ensures.kept at c.min-n.ensures) c.if-long-eq0.false _
 
 pub returns-clause-means : goal.returns-clause-means
 returns-clause-means c =
-    let u : Turn c.args.t c.args.self.now c.args.chunk.now _ c.kind_of.result c.length_of-long.result =
-    record { part = c.requires.part; goes = c.requires.going; is = refl; kinds = c.kind_of.ensures; lengths = c.length_of-long.ensures.0 } in
+    let u = turn c.args.t c.args.self.now c.args.chunk.now c.requires.part c.requires.going c.kind_of.ensures c.length_of-long.ensures.long in
     whole_taken u c.min-n.result (rw c.bytes.ensures.kept at c.min-n.ensures) c.if-long-eq0.false
     (record { kept = c.add.new.self; file = c.args.self.now.file; stopped = c.args.self.now.stopped }) refl c.add.ensures
     (rw c.bytes-2.ensures.kept at c.if-bytes-long.false) _ _ (c.settle.ensures.means _ c.args.chunk.now)
 
 pub returns-clause-less : goal.returns-clause-less
 returns-clause-less c =
-    let u : Turn c.args.t c.args.self.now c.args.chunk.now _ c.kind_of.result c.length_of-long.result =
-    record { part = c.requires.part; goes = c.requires.going; is = refl; kinds = c.kind_of.ensures; lengths = c.length_of-long.ensures.0 } in
+    let u = turn c.args.t c.args.self.now c.args.chunk.now c.requires.part c.requires.going c.kind_of.ensures c.length_of-long.ensures.long in
     taken_on u c.min-n.result (rw c.bytes.ensures.kept at c.min-n.ensures) c.if-long-eq0.false _
