@@ -115,3 +115,11 @@ module _ (b : List ℕ) where
       by : (t : Bool) → Err e ≡ answered_by (cond t 0 3) (tt {0}) → refusal_number e ≡ cond t 0 3
       by true h = absurd (cc h)
       by false h = ap refused_by h
+
+  pub bad_alone : {e : Refusal} {r : Result (Unit {0}) Refusal} → r ≡ answered_by (file_refusal b) tt → r ≡ Err e → e ≡ BadFile
+  unfolding file_refusal
+  bad_alone {e} {r} p q = by (is_file b) (sym q ∙ p)
+    where
+      by : (t : Bool) → Err e ≡ answered_by (cond t 0 3) (tt {0}) → e ≡ BadFile
+      by true h = absurd (cc h)
+      by false h = cc h
