@@ -18,7 +18,7 @@ use Rattle.definition.specs.Addresses.{registers_of, segment_registers}
 use Rattle.definition.specs.Steps.{Step, reads, writes, touches, steps_of}
 use Rattle.definition.specs.Visits.{fixed_record}
 use Rattle.definition.specs.declared.Address.{Address}
-use Rattle.promises.proofs.None.{based_to, based_from}
+use Rattle.promises.proofs.Unknown.{based_to, based_from}
 use Rattle.sets.proofs.Bits.{bits_are}
 use Rattle.fetching.specs.Needs.{held_registers, slots_of, access_needs, step_needs, needs_of}
 use Rattle.fetching.specs.Judging.{all_known}
