@@ -84,7 +84,9 @@ fn may_protect(x: Record) -> bool
 pub fn exceptions_of(x: Record) -> ExceptionInfo
     ensures { result ≡ info_of (exceptions_of x) }
 {
-    let protected = ExceptionInfo::empty().set(Exception::GP, may_protect(x)).unwrap();
+    let protected = ExceptionInfo::empty()
+        .set(Exception::GP, may_protect(x))
+        .unwrap();
     protected.set(Exception::PF, memory::may_fault(x)).unwrap()
 }
 

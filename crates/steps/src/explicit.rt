@@ -107,13 +107,7 @@ fn put_part(log: &mut [u8], b: &[u8], spec: u8, way: Way, at: Sources, added: Va
             plus(sum(at_base, at_index), sign_extended(record::disp_in(b))),
             added,
         ),
-        34 => put_access(
-            log,
-            b,
-            way,
-            plus(Some(0), record::disp_in(b)),
-            added,
-        ),
+        34 => put_access(log, b, way, plus(Some(0), record::disp_in(b)), added),
         35 => put_access(
             log,
             b,
