@@ -6,7 +6,7 @@ use mathlib.Core.Bool.{Bool}
 use mathlib.Core.List.{List}
 use lib.ListN.{length}
 use lib.Dec.{eqb}
-use Rattle.laws.proofs.Choice.{either}
+use Rattle.std.proofs.lemmas.Bool.{cond_both}
 use Rattle.registers.specs.declared.RegisterFile.{RegisterFile}
 use Rattle.record.specs.Records.{record_of}
 use Rattle.definition.specs.Logs.{bytes_of}
@@ -22,7 +22,7 @@ Fits o = count_of o.0 < 2 ^ 32
 outcome_fits : (number opcode : ℕ) (bytes buffer : List ℕ) (start : ℕ) → length bytes < 2 ^ 32 → Fits (outcome number opcode bytes buffer start)
 unfolding outcome
 outcome_fits number opcode bytes buffer start h =
-    either Fits (eqb number 0) _ _ (λ t. h) (λ t. either Fits (eqb number 4) _ _ (λ u. omega arith) (λ u. either Fits (eqb number 7) _ _ (λ v. h) (λ v. omega arith)))
+    cond_both (eqb number 0) _ _ Fits (λ t. h) (λ t. cond_both (eqb number 4) _ _ Fits (λ u. omega arith) (λ u. cond_both (eqb number 7) _ _ Fits (λ v. h) (λ v. omega arith)))
 
 pub listing_fits : (b buffer : List ℕ) (start : ℕ) {a : Answer} {out : List ℕ} → (a, out) ≡ listing_call b buffer start → count_of a < 2 ^ 32
 unfolding listing_call

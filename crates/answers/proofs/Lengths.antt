@@ -6,7 +6,7 @@ use mathlib.Core.Bool.{◌||◌}
 use mathlib.Core.List.{List, [], ◌∷◌}
 use lib.ListN.{length, drop}
 use lib.Dec.{ltb, eqb}
-use Rattle.laws.proofs.Choice.{either}
+use Rattle.std.proofs.lemmas.Bool.{cond_both}
 use Rattle.laws.proofs.Every.{every_at}
 use Rattle.event.proofs.Fronts.{goes_on_lem}
 use Rattle.definition.specs.Readings.{body_of, front_event, is_event, read_front, read_at, placed}
@@ -27,8 +27,8 @@ front_most : (l : List ℕ) → length_from 0 (read_front l) ≤ most
 unfolding read_front
 front_most [] = omega arith
 front_most (k ∷ l) =
-    either (λ r. length_from 0 r ≤ most) (eqb (body_of k) 0 || ltb (length l) (body_of k)) _ _ (λ t. omega arith)
-    (λ t. either (λ r. length_from 0 r ≤ most) (is_event (front_event (k ∷ l))) _ _ (λ u. omega (arith, body_most k)) (λ u. omega arith))
+    cond_both (eqb (body_of k) 0 || ltb (length l) (body_of k)) _ _ (λ r. length_from 0 r ≤ most) (λ t. omega arith)
+    (λ t. cond_both (is_event (front_event (k ∷ l))) _ _ (λ r. length_from 0 r ≤ most) (λ u. omega (arith, body_most k)) (λ u. omega arith))
 
 placed_length : (at : ℕ) (r : Reading) → length_from at (placed at r) ≡ length_from 0 r
 placed_length at (Found e n) = omega arith

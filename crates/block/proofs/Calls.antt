@@ -15,7 +15,7 @@ use Rattle.laws.specs.Refusals.{refusal_number, refusal_named}
 use Rattle.laws.specs.declared.refusals.Refusal.{Refusal}
 use Rattle.laws.specs.Lists as lists
 use Rattle.laws.specs.Lending.{splice}
-use Rattle.laws.proofs.Choice.{either}
+use Rattle.std.proofs.lemmas.Bool.{cond_both}
 use Rattle.registers.specs.Files.{file_of, is_file}
 use Rattle.registers.specs.Told.{file_refusal}
 use Rattle.registers.specs.declared.RegisterFile.{RegisterFile}
@@ -100,7 +100,7 @@ few_from f (b ∷ bs) p s =
     let o = visit_under b f p s in
     let r = few_from f bs o.1 (s + logged_by o.0) in
     let m = logged_most b f p s in
-    either (Few (suc (length bs))) (is_seven o.0) _ _
+    cond_both (is_seven o.0) _ _ (Few (suc (length bs)))
     (λ t. record { answers = omega arith; count = omega arith; sum = omega (arith, m) })
     (λ t. record { answers = omega (arith, r.answers); count = omega (arith, r.count); sum = omega (arith, r.sum, m) })
 

@@ -7,7 +7,7 @@ use mathlib.Core.Bool.{false}
 use lib.ListN.{length}
 use lib.Dec.{eqb}
 use borrow.Author.Tests.{ne_eqb}
-use Rattle.laws.proofs.Choice.{either}
+use Rattle.std.proofs.lemmas.Bool.{cond_both}
 use Rattle.registers.specs.declared.RegisterFile.{RegisterFile}
 use Rattle.record.specs.Records.{record_of}
 use Rattle.definition.specs.Limits.{most_bytes}
@@ -33,8 +33,8 @@ Short_enough o = count_of o.0 ≤ most_bytes
 outcome_most : (k o : ℕ) (l p : List ℕ) (s : ℕ) → length l ≤ most_bytes → Short_enough (outcome k o l p s)
 unfolding outcome
 outcome_most k o l p s h =
-    either Short_enough (eqb k 0) _ _ (λ t. h)
-    (λ t. either Short_enough (eqb k 4) _ _ (λ u. omega arith) (λ u. either Short_enough (eqb k 7) _ _ (λ v. h) (λ v. omega arith)))
+    cond_both (eqb k 0) _ _ Short_enough (λ t. h)
+    (λ t. cond_both (eqb k 4) _ _ Short_enough (λ u. omega arith) (λ u. cond_both (eqb k 7) _ _ Short_enough (λ v. h) (λ v. omega arith)))
 
 module _ (b : List ℕ) (f : RegisterFile) (p : List ℕ) (s : ℕ) where
   pub count_most : count_of (visit_under b f p s).0 ≤ most_bytes

@@ -8,7 +8,7 @@ use mathlib.Core.Bool.{Bool, true, false, cond}
 use lib.ListN.{length, take, drop}
 use lib.Dec.{eqb}
 use Rattle.laws.specs.Lending.{splice}
-use Rattle.laws.proofs.Choice.{either}
+use Rattle.std.proofs.lemmas.Bool.{cond_both}
 use Rattle.registers.specs.declared.RegisterFile.{RegisterFile}
 use Rattle.record.specs.Records.{record_of}
 use Rattle.definition.specs.Refusals.{no_room}
@@ -121,7 +121,7 @@ left f (b ∷ bs) p s =
     let q = (visit_under b f p s).1 in
     let o = single b f p s in
     let r = left f bs q (s + logged_by a) in
-    either (Left p s) (is_seven a) _ _
+    cond_both (is_seven a) _ _ (Left p s)
     (λ t.
     let z : logged_by a ≡ 0 = seven_none a t in
     record { place = omega arith; long = o.long; before = o.before; behind = rw (z, add-zero s) at o.behind })
@@ -143,7 +143,7 @@ singly f p (b ∷ bs) q s e =
     let x = (visit_under b f q s).1 in
     let o = single b f q s in
     let l = left f bs x (s + logged_by a) in
-    either (λ (r : Block). Singly f p r.buffer s (b ∷ bs) r.answers) (is_seven a) _ _
+    cond_both (is_seven a) _ _ (λ (r : Block). Singly f p r.buffer s (b ∷ bs) r.answers)
     (λ t. (same_answer b f p q s e, same_bytes b f p q s e, tt))
     (λ t. (
       same_answer b f p q s e,
@@ -156,7 +156,7 @@ unfolding block_from
 counting f [] p s = through
 counting f (b ∷ bs) p s =
     let a = visit_under b f p s in
-    either (λ (r : Block). Counting (b ∷ bs) r.count r.answers) (is_seven a.0) _ _ (λ t. full t)
+    cond_both (is_seven a.0) _ _ (λ (r : Block). Counting (b ∷ bs) r.count r.answers) (λ t. full t)
     (λ t. on t (counting f bs a.1 (s + logged_by a.0)))
 
 pub blocks_are_single_calls : promised.BlocksAreSingleCalls

@@ -9,7 +9,7 @@ use lib.Seq.{length-take-le}
 use lib.Dec.{ltb}
 use Rattle.laws.specs.Lending.{size}
 use Rattle.laws.proofs.OneByOne.{one_size}
-use Rattle.laws.proofs.Choice.{either}
+use Rattle.std.proofs.lemmas.Bool.{cond_both}
 use Rattle.decimal.specs.Words.{letters, decimal, places, word_bytes}
 use Rattle.decimal.proofs.Numbers.{long}
 
@@ -18,7 +18,7 @@ unfolding places
 places_few zero n = le_refl 1
 places_few (suc limit) n =
     let few = places_few limit (n / 10) in
-    either (λ (k : ℕ). k ≤ suc (suc limit)) (ltb n 10) 1 (suc (places limit (n / 10))) (λ e. omega arith) (λ e. omega arith)
+    cond_both (ltb n 10) 1 (suc (places limit (n / 10))) (λ (k : ℕ). k ≤ suc (suc limit)) (λ e. omega arith) (λ e. omega arith)
 
 pub letters_size : (t : List ℕ) → size word_bytes (letters t ∷ []) ≡ length t
 unfolding word_bytes

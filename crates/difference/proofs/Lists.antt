@@ -7,7 +7,7 @@ use mathlib.Core.List.{List, [], ◌∷◌, ◌++◌}
 use mathlib.Core.Bool.{Bool, true, false, cond, ◌&&◌, ◌||◌}
 use lib.ListN.{length, get_or, drop}
 use lib.Dec.{eqb, ltb}
-use Rattle.laws.proofs.Choice.{and_left, and_right}
+use Rattle.std.proofs.lemmas.Bool.{and_parts}
 use Rattle.registers.specs.Banks.{reg}
 use Rattle.definition.specs.declared.Event.{Event}
 use Rattle.definition.specs.declared.Event.TheVariants.{RegisterRead, RegisterWrite, MemoryRead, MemoryWrite, UnknownRead, UnknownWrite}
@@ -31,9 +31,9 @@ again (UnknownWrite n) = refl
 pub same_is : (d e : Event) → same_event d e ≡ true → d ≡ e
 unfolding same_event
 same_is d e h =
-    let k : kind_in d ≡ kind_in e = eqb-true (kind_in d) (kind_in e) (and_left _ _ (and_left _ _ h)) in
-    let x : first_in d ≡ first_in e = eqb-true (first_in d) (first_in e) (and_right (eqb (kind_in d) (kind_in e)) _ (and_left _ _ h)) in
-    let y : second_in d ≡ second_in e = eqb-true (second_in d) (second_in e) (and_right (eqb (kind_in d) (kind_in e) && eqb (first_in d) (first_in e)) _ h) in
+    let k : kind_in d ≡ kind_in e = eqb-true (kind_in d) (kind_in e) ((and_parts _ _ ((and_parts _ _ h).0)).0) in
+    let x : first_in d ≡ first_in e = eqb-true (first_in d) (first_in e) ((and_parts (eqb (kind_in d) (kind_in e)) _ ((and_parts _ _ h).0)).1) in
+    let y : second_in d ≡ second_in e = eqb-true (second_in d) (second_in e) ((and_parts (eqb (kind_in d) (kind_in e) && eqb (first_in d) (first_in e)) _ h).1) in
     sym (again d) ∙ rw (k, x, y) (again e)
 
 pub same_self : (e : Event) → same_event e e ≡ true

@@ -14,7 +14,7 @@ use Rattle.laws.specs.Lending.{size}
 use Rattle.laws.specs.Refusals.{refusal_number}
 use Rattle.laws.specs.declared.refusals.Refusal.{Refusal}
 use Rattle.laws.specs.declared.refusals.Refusal.TheVariants.{Malformed, Outside}
-use Rattle.laws.proofs.Choice.{or_right}
+use Rattle.std.proofs.lemmas.Bool.{or_parts}
 use Rattle.registers.specs.Banks.{is_logged}
 use Rattle.definition.specs.Logs.{event_bytes, bytes_of}
 use Rattle.definition.specs.Readings.{body_of, front_event, is_event, read_front, Reads, end, next}
@@ -68,7 +68,7 @@ module _ (xs ys : List Event) where
 
   sign_rest : differ xs ys ≡ false → rest_of xs ys ≡ []
   unfolding differ
-  sign_rest h = none_is (rest_of xs ys) (or_right (ltb 0 (length (left_of xs ys))) (ltb 0 (length (rest_of xs ys))) h)
+  sign_rest h = none_is (rest_of xs ys) ((or_parts (ltb 0 (length (left_of xs ys))) (ltb 0 (length (rest_of xs ys))) h).1)
     where
       none_is : (es : List Event) → ltb 0 (length es) ≡ false → es ≡ []
       none_is [] e = refl

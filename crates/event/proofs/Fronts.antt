@@ -11,7 +11,7 @@ use borrow.Author.Tests.{eq-eqb, eqb-false, ne_eqb, lt-ltb, le-ltb, ltb-false}
 use Rattle.laws.specs.Words.{number_at}
 use Rattle.laws.specs.declared.refusals.Refusal.TheVariants.{Malformed, Outside}
 use Rattle.registers.specs.Banks.{reg}
-use Rattle.laws.proofs.Choice.{either, or_left, or_right}
+use Rattle.std.proofs.lemmas.Bool.{cond_both, or_parts}
 use Rattle.laws.proofs.Lending.{part, part_is}
 use Rattle.definition.specs.declared.Event.{Event}
 use Rattle.definition.specs.declared.Event.TheVariants.{RegisterRead, RegisterWrite, MemoryRead, MemoryWrite, UnknownRead, UnknownWrite}
@@ -75,10 +75,10 @@ pub within : (l : List ℕ) → Within l (read_front l)
 unfolding read_front
 within [] = refl
 within (k ∷ l) =
-    either (Within (k ∷ l)) (eqb (body_of k) 0 || ltb (length l) (body_of k)) _ _ (λ t. inl refl)
-    (λ t. either (Within (k ∷ l)) (is_event (front_event (k ∷ l))) _ _
-    (λ u. let m : body_of k ≤ length l = ltb-false (length l) (body_of k) (or_right (eqb (body_of k) 0) (ltb (length l) (body_of k)) t) in
-    record { known = eqb-false (body_of k) 0 (or_left (eqb (body_of k) 0) (ltb (length l) (body_of k)) t); long = refl; inside = omega arith; event = refl; good = u })
+    cond_both (eqb (body_of k) 0 || ltb (length l) (body_of k)) _ _ (Within (k ∷ l)) (λ t. inl refl)
+    (λ t. cond_both (is_event (front_event (k ∷ l))) _ _ (Within (k ∷ l))
+    (λ u. let m : body_of k ≤ length l = ltb-false (length l) (body_of k) ((or_parts (eqb (body_of k) 0) (ltb (length l) (body_of k)) t).1) in
+    record { known = eqb-false (body_of k) 0 ((or_parts (eqb (body_of k) 0) (ltb (length l) (body_of k)) t).0); long = refl; inside = omega arith; event = refl; good = u })
     (λ u. inr refl))
 
 pub holds : (l : List ℕ) {e : Event} {n : ℕ} → read_front l ≡ Found e n → Holds l e n

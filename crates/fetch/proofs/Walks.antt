@@ -11,7 +11,7 @@ use borrow.Author.Tests.{eqb-true, eqb-false}
 use Rattle.laws.specs.Words.{bit}
 use Rattle.laws.specs.Lists.{each}
 use Rattle.laws.specs.Tests.{is_in}
-use Rattle.laws.proofs.Choice.{and_left, and_right}
+use Rattle.std.proofs.lemmas.Bool.{and_parts}
 use Rattle.sets.specs.Sets.{joined}
 use Rattle.sets.proofs.Bits.{bit_none}
 use Rattle.sets.proofs.Joined.{joined_append, joined_bit, joined_is}
@@ -75,8 +75,8 @@ module _ (set : ℕ) (b : List ℕ) {m : ℕ} (are : m ≡ joined 0 (needs_of b)
 
       go : (t : Bool) → all_in set (needs_of b) ≡ t → t ≡ false
       go true a =
-          let has = all_mem set (needs_of b) a k (in_true k (needs_of b) (and_left (is_in k (needs_of b)) (not (bit set k)) lacks)) in
-          sym (rw has at (and_right (is_in k (needs_of b)) (not (bit set k)) lacks))
+          let has = all_mem set (needs_of b) a k (in_true k (needs_of b) ((and_parts (is_in k (needs_of b)) (not (bit set k)) lacks).0)) in
+          sym (rw has at ((and_parts (is_in k (needs_of b)) (not (bit set k)) lacks).1))
       go false a = refl
 
 -- Along the bytes that are left of the records of n bytes: the first record, and those behind it

@@ -11,7 +11,7 @@ use borrow.Author.Tests.{lt-ltb, ltb-true, ltb-false}
 use Rattle.laws.specs.Words.{bit}
 use Rattle.laws.specs.Lists.{each}
 use Rattle.laws.specs.Tests.{any, is_in}
-use Rattle.laws.proofs.Choice.{and_left, and_right}
+use Rattle.std.proofs.lemmas.Bool.{and_parts}
 use Rattle.laws.proofs.Lists.{each_append}
 use Rattle.sets.proofs.Bits.{bits_are, bits_below}
 use Rattle.fetching.specs.Needs.{needs_of}
@@ -26,8 +26,8 @@ judge_is_right v bs = (to, from)
   where
     to : (ltb v (2 ^ set_bits) && all_in v (each needs_of bs)) ≡ true → (v < 2 ^ set_bits) × Suffices v bs
     to e = (
-      ltb-true v (2 ^ set_bits) (and_left (ltb v (2 ^ set_bits)) (all_in v (each needs_of bs)) e),
-      λ b m k n. all_mem v (each needs_of bs) (and_right (ltb v (2 ^ set_bits)) (all_in v (each needs_of bs)) e) k (each_mem needs_of bs b k m n),
+      ltb-true v (2 ^ set_bits) ((and_parts (ltb v (2 ^ set_bits)) (all_in v (each needs_of bs)) e).0),
+      λ b m k n. all_mem v (each needs_of bs) ((and_parts (ltb v (2 ^ set_bits)) (all_in v (each needs_of bs)) e).1) k (each_mem needs_of bs b k m n),
     )
 
     from : v < 2 ^ set_bits → Suffices v bs → (ltb v (2 ^ set_bits) && all_in v (each needs_of bs)) ≡ true
@@ -45,7 +45,7 @@ module _ (bs : List (List ℕ)) where
   proposed_bit k = bits_are (λ (j : ℕ). is_in j needed) 0 set_bits k ∙ rw (zero-add k)
 
   pub proposed_in : (k : ℕ) → bit (proposed bs) k ≡ true → Memᴰ k needed
-  proposed_in k e = in_true k needed (and_right (ltb k set_bits) (is_in k needed) (sym (proposed_bit k) ∙ e))
+  proposed_in k e = in_true k needed ((and_parts (ltb k set_bits) (is_in k needed) (sym (proposed_bit k) ∙ e)).1)
 
   need_small : (k : ℕ) → Memᴰ k needed → k < set_bits
   need_small k m = let r = mem_each needs_of bs k m in omega (arith, need_low r.0 k r.2)
@@ -62,7 +62,7 @@ proposed_accepted bs =
 
 pub proposed_least : ProposedLeast
 unfolding accepts
-proposed_least v bs e k h = all_mem v (each needs_of bs) (and_right (ltb v (2 ^ set_bits)) (all_in v (each needs_of bs)) e) k (proposed_in bs k h)
+proposed_least v bs e k h = all_mem v (each needs_of bs) ((and_parts (ltb v (2 ^ set_bits)) (all_in v (each needs_of bs)) e).1) k (proposed_in bs k h)
 
 -- two lists, one after the other
 and_both : (s a b : Bool) → (s && (a && b)) ≡ (s && a && (s && b))

@@ -11,7 +11,7 @@ use borrow.Author.Tests.{ltb-true, eqb-true, eqb-false}
 use Rattle.laws.specs.Words.{bit}
 use Rattle.laws.specs.Lists.{each}
 use Rattle.laws.specs.Tests.{any, is_in}
-use Rattle.laws.proofs.Choice.{and_left, and_right}
+use Rattle.std.proofs.lemmas.Bool.{and_parts}
 use Rattle.laws.proofs.Every.{Every}
 use Rattle.registers.specs.Files.{part_of}
 use Rattle.registers.specs.declared.RegSpec.{RegSpec}
@@ -49,7 +49,7 @@ pub all_mem : (v : ℕ) (ks : List ℕ) → all_in v ks ≡ true → (k : ℕ) �
 unfolding all_in
 all_mem v [] e k m = absurd (Memᴰ.not-nil m)
 all_mem v (j ∷ ks) e k m =
-    ⊎_elim (λ h. rw h (and_left (bit v j) (all_in v ks) e)) (λ h. all_mem v ks (and_right (bit v j) (all_in v ks) e) k h) (Memᴰ.cases_cons m)
+    ⊎_elim (λ h. rw h ((and_parts (bit v j) (all_in v ks) e).0)) (λ h. all_mem v ks ((and_parts (bit v j) (all_in v ks) e).1) k h) (Memᴰ.cases_cons m)
 
 pub mem_all : (v : ℕ) (ks : List ℕ) → ((k : ℕ) → Memᴰ k ks → bit v k ≡ true) → all_in v ks ≡ true
 unfolding all_in

@@ -9,7 +9,7 @@ use lib.Dec.{ltb, eqb}
 use borrow.Author.Tests.{eqb-true, eqb-false, not-true}
 use Rattle.laws.specs.Words.{bit}
 use Rattle.laws.specs.Tests.{is_in}
-use Rattle.laws.proofs.Choice.{and_left, and_right}
+use Rattle.std.proofs.lemmas.Bool.{and_parts}
 use Rattle.fetching.specs.Needs.{needs_of}
 use Rattle.fetching.specs.Judging.{set_bits, all_in, first_from, lacked_by, judge_from, judge}
 use Rattle.fetching.specs.Promises.{Lacks, JudgeNames}
@@ -53,8 +53,8 @@ lacked_is v b e =
     let p : ℕ → Bool = λ (k : ℕ). is_in k (needs_of b) && not (bit v k) in
     let q = first_from_lem p 0 set_bits r.0 (omega arith) (omega (arith, need_low b r.0 r.1)) (rw (true_in r.0 (needs_of b) r.1, r.2)) in
     let k = first_from p 0 set_bits in (
-      in_true k (needs_of b) (and_left (is_in k (needs_of b)) (not (bit v k)) q.0),
-      not-true (bit v k) (and_right (is_in k (needs_of b)) (not (bit v k)) q.0),
+      in_true k (needs_of b) ((and_parts (is_in k (needs_of b)) (not (bit v k)) q.0).0),
+      not-true (bit v k) ((and_parts (is_in k (needs_of b)) (not (bit v k)) q.0).1),
       λ j l m. not_both (is_in j (needs_of b)) (bit v j) (true_in j (needs_of b) m) (q.1 j (omega arith) l),
     )
 

@@ -7,7 +7,7 @@ use lib.ListN.{length, get_or, get_or-eq_default}
 use lib.Dec.{eqb, ltb, leb}
 use borrow.Author.Tests.{eq-eqb, ne_eqb, ltb-true, ltb-false, leb-true, eqb-true, eqb-false}
 use Rattle.laws.specs.Words.{little}
-use Rattle.laws.proofs.Choice.{and_left, and_right}
+use Rattle.std.proofs.lemmas.Bool.{and_parts}
 use Rattle.registers.specs.Banks.{logged_numbers, is_logged}
 use Rattle.definition.specs.Logs.{event_bytes}
 use Rattle.definition.specs.Readings.{is_size, is_event}
@@ -33,7 +33,7 @@ bank_few b n h = go (ltb b banks) refl
         let none : n < 0 = rw (get_or-eq_default logged_numbers 0 {n = b} past) at (ltb-true n (get_or logged_numbers b 0) h) in absurd (omega arith)
 
 size_few : (n : ℕ) → is_size n ≡ true → (1 ≤ n) × (n ≤ sizes)
-size_few n h = (leb-true 1 n (and_left (leb 1 n) (leb n sizes) h), leb-true n sizes (and_right (leb 1 n) (leb n sizes) h))
+size_few n h = (leb-true 1 n ((and_parts (leb 1 n) (leb n sizes) h).0), leb-true n sizes ((and_parts (leb 1 n) (leb n sizes) h).1))
 
 -- another word, and the same
 skip : (i j n m : ℕ) → (i ≡ j → ⊥) → cond (eqb i j) n 0 + m ≡ m

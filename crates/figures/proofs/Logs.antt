@@ -8,7 +8,7 @@ use lib.ListN.{length, drop, length-drop}
 use lib.Dec.{eqb, leb}
 use borrow.Author.Tests.{eq-eqb, ne_eqb, eqb-true, leb-true, le-leb}
 use Rattle.laws.specs.Lending.{size}
-use Rattle.laws.proofs.Choice.{and_left, and_right}
+use Rattle.std.proofs.lemmas.Bool.{and_parts}
 use Rattle.laws.specs.Refusals.{refused_by}
 use Rattle.totals.proofs.Adding.{numbered}
 use Rattle.definition.specs.Logs.{event_bytes}
@@ -54,7 +54,7 @@ module _ (l : List ℕ) where
   good_is h =
       let a = leb (length l) most_log_bytes in
       let b = eqb (refused_by (counted_of l)) 0 in
-      (leb-true (length l) most_log_bytes (and_left a b h), eqb-true (refused_by (counted_of l)) 0 (and_right a b h))
+      (leb-true (length l) most_log_bytes ((and_parts a b h).0), eqb-true (refused_by (counted_of l)) 0 ((and_parts a b h).1))
 
   pub is_good_lem : length l ≤ most_log_bytes → refused_by (counted_of l) ≡ 0 → is_good l ≡ true
   unfolding is_good

@@ -7,7 +7,7 @@ use mathlib.Core.List.{List, [], ◌∷◌}
 use lib.ListN.{length, get_or, take, get_or-replicate}
 use lib.Dec.{ltb, leb}
 use borrow.Author.Tests.{eq-eqb, ne_eqb, lt-leb, ltb-true, ltb-false, leb-true, leb-false, le-ltb}
-use Rattle.laws.proofs.Choice.{and_right}
+use Rattle.std.proofs.lemmas.Bool.{and_parts}
 use Rattle.definition.specs.Addresses.{word}
 use Rattle.watching.specs.Verdicts.{variable, is_length}
 use Rattle.watching.specs.declared.verdicts.Variable.{Variable}
@@ -77,7 +77,7 @@ module _ (v : Variable) (x : Watched v) where
             length_small = leb_is v.length x.length_is
               where
                 leb_is : (n : ℕ) → is_length n ≡ true → n ≤ 8
-                leb_is n e = leb-true n 8 (and_right (leb 1 n) (leb n 8) e)
+                leb_is n e = leb-true n 8 ((and_parts (leb 1 n) (leb n 8) e).1)
         low (suc (suc i)) h = absurd (omega arith)
 
         go : (t : Bool) → ltb i logs_word ≡ t → get_or w i 0 + adds v i l < word

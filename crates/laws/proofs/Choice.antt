@@ -1,32 +1,10 @@
--- Choice by a Bool, the parts of a test, and a list of tests taken one by one, as code takes them. Assumes nothing.
+-- A list of tests taken one by one, as code takes them. Assumes nothing.
 use Prim.Native.Nat.{ℕ}
 use mathlib.Core.Path.{◌≡◌, refl}
 use mathlib.Core.List.{List, ◌∷◌}
 use mathlib.Core.Bool.{Bool, true, false, cond, ◌&&◌, ◌||◌}
 use borrow.Author.Tests.{eq-eqb, ne_eqb}
 use Rattle.laws.specs.Tests.{any, is_in, first_of}
-
-pub or_left : (a b : Bool) → (a || b) ≡ false → a ≡ false
-or_left true b e = e
-or_left false b e = refl
-
-pub or_right : (a b : Bool) → (a || b) ≡ false → b ≡ false
-or_right true b e = cc
-or_right false b e = e
-
-pub and_left : (a b : Bool) → (a && b) ≡ true → a ≡ true
-and_left true b e = refl
-and_left false b e = e
-
-pub and_right : (a b : Bool) → (a && b) ≡ true → b ≡ true
-and_right true b e = e
-and_right false b e = cc
-
-module _ {A : Type 0} where
-  -- what holds of both choices, each under its test, holds of the choice
-  pub either : (P : A → Type 0) (t : Bool) (a b : A) → (t ≡ true → P a) → (t ≡ false → P b) → P (cond t a b)
-  either P true a b p q = p refl
-  either P false a b p q = q refl
 
 -- the first test of a list holds
 pub first_here : (t : Bool) (n : ℕ) (ts : List (Bool × ℕ)) → t ≡ true → first_of ((t, n) ∷ ts) ≡ n

@@ -6,7 +6,8 @@ use mathlib.Core.List.{List, [], ◌∷◌, ◌++◌, map}
 use mathlib.Core.Bool.{Bool, true, false, cond, ◌&&◌}
 use lib.ListN.{get_or, take}
 use native.Mathlib.Omega.{arith}
-use Rattle.laws.proofs.Choice.{or_left, or_right, and_left, and_right, any_later, in_later, first_later}
+use Rattle.std.proofs.lemmas.Bool.{and_parts, or_parts}
+use Rattle.laws.proofs.Choice.{any_later, in_later, first_later}
 use Rattle.laws.specs.Tests.{any, is_in, first_of}
 use Rattle.laws.specs.Lists.{each}
 
@@ -49,7 +50,7 @@ module _ {A : Type 0} where
   pub any_false : (p : A → Bool) (xs : List A) → any p xs ≡ false → Every (λ x. p x ≡ false) xs
   unfolding any
   any_false p [] e = tt
-  any_false p (x ∷ xs) e = (or_left (p x) (any p xs) e, any_false p xs (or_right (p x) (any p xs) e))
+  any_false p (x ∷ xs) e = ((or_parts (p x) (any p xs) e).0, any_false p xs ((or_parts (p x) (any p xs) e).1))
 
   pub any_none : (p : A → Bool) (xs : List A) → Every (λ x. p x ≡ false) xs → any p xs ≡ false
   unfolding any
@@ -91,8 +92,8 @@ tested f i (x ∷ xs) = f i x && tested f (suc i) xs
 
 from : {A : Type 0} (f : ℕ → A → Bool) (xs : List A) (d : A) (i : ℕ) → tested f i xs ≡ true → ((k : ℕ) → f k d ≡ true) → (k : ℕ) → f (k + i) (get_or xs k d) ≡ true
 from f [] d i t h k = h (k + i)
-from f (x ∷ xs) d i t h zero = rw zero-add (and_left (f i x) (tested f (suc i) xs) t)
-from f (x ∷ xs) d i t h (suc k) = rw (suc-add, ← add-suc) (from f xs d (suc i) (and_right (f i x) (tested f (suc i) xs) t) h k)
+from f (x ∷ xs) d i t h zero = rw zero-add ((and_parts (f i x) (tested f (suc i) xs) t).0)
+from f (x ∷ xs) d i t h (suc k) = rw (suc-add, ← add-suc) (from f xs d (suc i) ((and_parts (f i x) (tested f (suc i) xs) t).1) h k)
 
 pub at : {A : Type 0} (f : ℕ → A → Bool) (xs : List A) (d : A) → tested f 0 xs ≡ true → ((k : ℕ) → f k d ≡ true) → (k : ℕ) → f k (get_or xs k d) ≡ true
 at f xs d t h k = rw add-zero at (from f xs d 0 t h k)

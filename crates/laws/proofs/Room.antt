@@ -6,15 +6,15 @@ use mathlib.Core.Path.{◌≡◌, refl}
 use mathlib.Core.Bool.{Bool, true, false, ◌||◌}
 use lib.Dec.{ltb}
 use Rattle.laws.specs.Lending.{lacks_room}
-use Rattle.laws.proofs.Choice.{or_left, or_right}
+use Rattle.std.proofs.lemmas.Bool.{or_parts}
 
 module _ (n start end : ℕ) where
   -- where there is room, the start is inside and so many bytes are left behind it; and the other way round
   pub starts_inside : lacks_room n start end ≡ false → start ≤ end
-  starts_inside h = ltb-false end start (or_left (ltb end start) (ltb (end - start) n) h)
+  starts_inside h = ltb-false end start ((or_parts (ltb end start) (ltb (end - start) n) h).0)
 
   pub has_left : lacks_room n start end ≡ false → n ≤ end - start
-  has_left h = ltb-false (end - start) n (or_right (ltb end start) (ltb (end - start) n) h)
+  has_left h = ltb-false (end - start) n ((or_parts (ltb end start) (ltb (end - start) n) h).1)
 
   pub has_room : start ≤ end → n ≤ end - start → lacks_room n start end ≡ false
   has_room s h = simp (le-ltb end start s, le-ltb (end - start) n h)

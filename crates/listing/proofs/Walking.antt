@@ -11,7 +11,7 @@ use lib.Dec.{eqb}
 use lib.ListN.{length, get_or, take, drop, length-take, drop_of_length-le}
 use lib.Seq.{drop-cons, drop-drop, get_or-take}
 use Rattle.laws.specs.Lists.{each, flat}
-use Rattle.laws.proofs.Choice.{either}
+use Rattle.std.proofs.lemmas.Bool.{cond_both}
 use Rattle.access.specs.Accesses.{access_number, access_of}
 use Rattle.access.specs.declared.Access.{Access}
 use Rattle.digest.proofs.Laws.{flags_number}
@@ -89,8 +89,7 @@ flags_left : (x : Record) → items_of x ≡ items_by x (flags_next x)
 unfolding flags_next flag_items
 flags_left x =
     in_order x
-    ∙ either (λ (is : List Item). is ++ (implicit_items x 0 ++ explicit_items x) ≡ items_by x (first_in is (place false 1) (implicit_next x 0)))
-    (eqb (flags_access x.digest) 0) [] (Flags (access_of (flags_access x.digest)) ∷ [])
+    ∙ cond_both (eqb (flags_access x.digest) 0) [] (Flags (access_of (flags_access x.digest)) ∷ []) (λ (is : List Item). is ++ (implicit_items x 0 ++ explicit_items x) ≡ items_by x (first_in is (place false 1) (implicit_next x 0)))
     (λ h. implicit_left x 0)
     (λ h. ap (λ (l : List Item). Flags (access_of (flags_access x.digest)) ∷ l) (sym (implicit_at x 0 {k = 1} refl)))
 

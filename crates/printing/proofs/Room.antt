@@ -6,7 +6,7 @@ use lib.ListN.{length, get_or}
 use lib.Dec.{eqb}
 use Rattle.laws.specs.Lists.{each}
 use Rattle.laws.specs.Lending.{size}
-use Rattle.laws.proofs.Choice.{either}
+use Rattle.std.proofs.lemmas.Bool.{cond_both}
 use Rattle.laws.proofs.Lending.{size_append, sizes, size_flat}
 use Rattle.decimal.specs.Words.{Word, letters, decimal, word_bytes}
 use Rattle.decimal.proofs.Sizes.{letters_size, decimal_size}
@@ -35,7 +35,7 @@ none = omega arith
 count_most : (letter : List ℕ) (k n : ℕ) → bytes (count_line letter k n) ≤ length letter + 42
 unfolding count_line ascii
 count_most letter k n =
-    either (λ (ws : List Word). bytes ws ≤ length letter + 42) (eqb n 0) [] (pair_line letter k (32 ∷ []) n)
+    cond_both (eqb n 0) [] (pair_line letter k (32 ∷ []) n) (λ (ws : List Word). bytes ws ≤ length letter + 42)
     (λ e. omega (arith, none)) (λ e. pair_most letter k (32 ∷ []) n)
 
 counts_most : (letter : List ℕ) (base k n : ℕ) (w : List ℕ) → bytes (count_lines letter base k n w) ≤ n * (length letter + 42)
@@ -76,5 +76,5 @@ sheet_most w =
 pub report_most : (number : ℕ) (w : List ℕ) → bytes (report_text number w) ≤ 4096
 unfolding report_text ascii
 report_most number w =
-    either (λ (ws : List Word). bytes ws ≤ 4096) (eqb number 0) (sheet_text w) (line (ascii "refused ") number)
+    cond_both (eqb number 0) (sheet_text w) (line (ascii "refused ") number) (λ (ws : List Word). bytes ws ≤ 4096)
     (λ e. sheet_most w) (λ e. omega (arith, line_most (ascii "refused ") number))

@@ -13,7 +13,7 @@ use lib.Dec.{eqb, ltb, lit<, eqb-suc-zero}
 use Rattle.laws.specs.Words.{bit}
 use Rattle.laws.specs.Tests.{any, is_in}
 use Rattle.laws.specs.Lists.{each, flat}
-use Rattle.laws.proofs.Choice.{or_left, or_right, and_left, and_right}
+use Rattle.std.proofs.lemmas.Bool.{and_parts, or_parts}
 use Rattle.laws.proofs.Every.{Every, every_append, every_take, every_at, every_cond, every_unless, every_if, every_weaken, any_false, every_map, every_each, at}
 use Rattle.access.specs.Accesses.{reading, writing}
 use Rattle.registers.specs.Banks.{reg, logged_numbers, fs, gs, is_register, is_logged}
@@ -320,13 +320,13 @@ module _ (x : Record) (s : Sound x) where
         (every_take (λ o. shape_test o.shape ≡ true) x.count (operand_at x 0 ∷ operand_at x 1 ∷ operand_at x 2 ∷ operand_at x 3 ∷ [])
         (shape_good (spec_at x 0), (shape_good (spec_at x 1), (shape_good (spec_at x 2), (shape_good (spec_at x 3), tt)))))
         (any_false _ (operands_of x) (any_false (λ t. t) _ named).0)
-        (λ e. any_false _ (operands_of x) (or_left _ (is_in x.digest.extra memory_lists) (none_sized e)))
+        (λ e. any_false _ (operands_of x) ((or_parts _ (is_in x.digest.extra memory_lists) (none_sized e)).0))
 
     list_sized : is_in x.digest.extra memory_lists ≡ true → is_size x.size ≡ true
     list_sized h = go (eqb x.size 0) refl
       where
         go : (t : Bool) → eqb x.size 0 ≡ t → is_size x.size ≡ true
-        go true e = cc (or_right (accessed is_memory x) (is_in x.digest.extra memory_lists) (none_sized e))
+        go true e = cc ((or_parts (accessed is_memory x) (is_in x.digest.extra memory_lists) (none_sized e)).1)
         go false e = size_good e
 
     register_step_good : (w : Way) (y : RegSpec) → Good y → GoodStep (register_step w y)
@@ -336,14 +336,14 @@ module _ (x : Record) (s : Sound x) where
     implied_good : (w : Way) (o : ImplicitOperand) → operand_test x.digest.extra o ≡ true → GoodStep (implicit_step x.size w o)
     unfolding implicit_step segment_registers registers_of term_registers mask_registers
     implied_good w (implied.Register y) h = register_step_good w y h
-    implied_good w (implied.MemDeref y) h = (tt, (and_left (register_test y) _ h, tt), tt, list_sized (and_right (register_test y) _ h))
-    implied_good w (implied.Disp y n) h = (tt, (and_left (register_test y) _ h, tt), tt, list_sized (and_right (register_test y) _ h))
+    implied_good w (implied.MemDeref y) h = (tt, ((and_parts (register_test y) _ h).0, tt), tt, list_sized ((and_parts (register_test y) _ h).1))
+    implied_good w (implied.Disp y n) h = (tt, ((and_parts (register_test y) _ h).0, tt), tt, list_sized ((and_parts (register_test y) _ h).1))
     implied_good w (implied.MemBaseIndexScale y z n) h =
-        let both = and_left (register_test y && register_test z) (is_in x.digest.extra memory_lists) h in (
+        let both = (and_parts (register_test y && register_test z) (is_in x.digest.extra memory_lists) h).0 in (
           tt,
-          (and_left (register_test y) (register_test z) both, (and_right (register_test y) (register_test z) both, tt)),
+          ((and_parts (register_test y) (register_test z) both).0, ((and_parts (register_test y) (register_test z) both).1, tt)),
           tt,
-          list_sized (and_right (register_test y && register_test z) (is_in x.digest.extra memory_lists) h),
+          list_sized ((and_parts (register_test y && register_test z) (is_in x.digest.extra memory_lists) h).1),
         )
 
     slot_good : (i : ℕ) → Every Good (slot_registers x i)

@@ -11,7 +11,7 @@ use lib.ListN.{length, length-append, get_or, get_or-append}
 use lib.Dec.{eqb, ltb, lit≤}
 use borrow.Author.Tests.{eqb-true, ltb-true, eq-eqb, lt-ltb}
 use Rattle.laws.specs.Words.{number_at, bit}
-use Rattle.laws.proofs.Choice.{and_left, and_right}
+use Rattle.std.proofs.lemmas.Bool.{and_parts}
 use Rattle.laws.proofs.Span.{span}
 use Rattle.registers.specs.Files.{file_kind, based_kind, file_bytes, based_bytes, plain_slots, file_slots, file_values, file_length, numbers_from, file_of, is_file, part_of, slot_of, part_value, value_of}
 use Rattle.registers.specs.declared.RegSpec.{RegSpec}
@@ -86,13 +86,13 @@ module _ (t u : List ℕ) (good : is_file (file_kind ∷ t) ≡ true) (more : le
   long =
       let some = ltb 0 (length plain) in
       let fits = eqb (length plain) file_bytes in
-      eqb-true (length plain) file_bytes (and_right some fits (and_left (some && fits) (ltb (number_at plain 1 4) (2 ^ file_values file_kind)) good))
+      eqb-true (length plain) file_bytes ((and_parts some fits ((and_parts (some && fits) (ltb (number_at plain 1 4) (2 ^ file_values file_kind)) good).0)).1)
 
   few : number_at plain 1 4 < 2 ^ plain_slots
   unfolding is_file file_length file_values
   few =
       let fits = ltb 0 (length plain) && eqb (length plain) file_bytes in
-      ltb-true (number_at plain 1 4) (2 ^ plain_slots) (and_right fits (ltb (number_at plain 1 4) (2 ^ plain_slots)) good)
+      ltb-true (number_at plain 1 4) (2 ^ plain_slots) ((and_parts fits (ltb (number_at plain 1 4) (2 ^ plain_slots)) good).1)
 
   alike_file : (i : ℕ) → 1 ≤ i → i < file_bytes → get_or based i 0 ≡ get_or plain i 0
   alike_file zero h k = absurd (not-suc-le-zero h)

@@ -9,7 +9,7 @@ use lib.ListN.{length, take, drop, length-append, length-take, length-drop}
 use lib.Seq.{take_at, drop_at}
 use lib.Dec.{ltb, eqb}
 use Rattle.laws.specs.Lending.{splice}
-use Rattle.laws.proofs.Choice.{or_left, or_right}
+use Rattle.std.proofs.lemmas.Bool.{or_parts}
 use Rattle.definition.specs.Refusals.{no_room}
 use Rattle.definition.specs.Visits.{outcome, number_of, count_of}
 use Rattle.definition.specs.declared.Answer.{Answer}
@@ -86,8 +86,8 @@ module _ (k o : ℕ) (l p : List ℕ) (s : ℕ) where
 pub spliced : (l p : List ℕ) (s : ℕ) → no_room (length l) p s ≡ false → Written l p (splice p s l) s (length l)
 unfolding splice no_room
 spliced l p s h =
-    let a : s ≤ length p = ltb-false (length p) s (or_left (ltb (length p) s) _ h) in
-    let b : length l ≤ length p - s = ltb-false (length p - s) (length l) (or_right (ltb (length p) s) _ h) in
+    let a : s ≤ length p = ltb-false (length p) s ((or_parts (ltb (length p) s) _ h).0) in
+    let b : length l ≤ length p - s = ltb-false (length p - s) (length l) ((or_parts (ltb (length p) s) _ h).1) in
     let e : length (take s p) ≡ s = simp length-take (omega arith) in
     let front : length (take s p ++ l) ≡ s + length l = simp (length-append, length-take) (omega arith) in
     record {

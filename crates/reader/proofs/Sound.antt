@@ -9,7 +9,7 @@ use mathlib.Core.Bool.{Bool, true, false, cond, not, ◌&&◌, ◌||◌}
 use lib.ListN.{length, get_or, take, length-take}
 use lib.Dec.{ltb, eqb}
 use Rattle.std.specs.Prelude.{Option, Some, None}
-use Rattle.laws.proofs.Choice.{either, and_left, and_right}
+use Rattle.std.proofs.lemmas.Bool.{and_parts, cond_both}
 use Rattle.registers.specs.Files.{file_kind, based_kind, file_bytes, based_bytes, file_length, is_file}
 use Rattle.record.specs.Records.{record_kind, segment_kind, everyday_kind, record_bytes, segment_bytes, everyday_bytes, record_length}
 use Rattle.streams.specs.Cuts.{halted, closing_of}
@@ -46,13 +46,13 @@ pub ruleset kinds_short = (file_kind_short, record_kind_short)
 
 pub kind_short : (k : ℕ) → length_of k < item_room
 unfolding length_of
-kind_short k = either (λ n. n < item_room) (of_file k) _ _ (λ t. file_kind_short k) (λ t. record_kind_short k)
+kind_short k = cond_both (of_file k) _ _ (λ n. n < item_room) (λ t. file_kind_short k) (λ t. record_kind_short k)
 
 pub file_short : (b : List ℕ) → is_file b ≡ true → length b < item_room
 unfolding is_file
 file_short b h =
-    let both = and_left (ltb 0 (length b) && eqb (length b) (file_length (get_or b 0 0))) _ h in
-    let long : length b ≡ file_length (get_or b 0 0) = eqb-true (length b) (file_length (get_or b 0 0)) (and_right (ltb 0 (length b)) _ both) in
+    let both = (and_parts (ltb 0 (length b) && eqb (length b) (file_length (get_or b 0 0))) _ h).0 in
+    let long : length b ≡ file_length (get_or b 0 0) = eqb-true (length b) (file_length (get_or b 0 0)) ((and_parts (ltb 0 (length b)) _ both).1) in
     omega (arith, long, file_kind_short (get_or b 0 0))
 
 -- bytes that are none, or a part of an item
@@ -78,7 +78,7 @@ module _ (r : Reader) where
   not_held k f h z e = rw (h, z, e)
 
   pub goes : holds ≡ true → Going r
-  goes h = record { part = λ s. part_held r.kept (and_left _ _ h) }
+  goes h = record { part = λ s. part_held r.kept ((and_parts _ _ h).0) }
 
   -- what closing answers
   pub closes_stopped : r.stopped ≡ true → 1 ≡ closing_of (checked r)

@@ -9,7 +9,7 @@ use lib.ListN.{length, get_or, drop, set, replicate, length-append, length-repli
 use lib.Seq.{sets, sets-eq, take_at, drop-append-add, ext_get_or}
 use lib.Dec.{eqb}
 use mir.Val.{bool_byte as from_bool}
-use Rattle.laws.proofs.Choice.{and_left, and_right}
+use Rattle.std.proofs.lemmas.Bool.{and_parts}
 use Rattle.streams.specs.Streams.{StreamReader}
 use Rattle.reader.specs.Held.{reader_with}
 use Rattle.reader.specs.declared.held.Reader.{Reader}
@@ -75,7 +75,7 @@ by_last_lem v w n i h l rest = go (eqb i n) refl
 pub one_by_one : (v w : List ℕ) (n : ℕ) → same_words v w n ≡ true → (i : ℕ) → i < n → get_or v i 0 ≡ get_or w i 0
 unfolding same_words
 one_by_one v w zero h i l = absurd (omega arith)
-one_by_one v w (suc n) h i l = by_last_lem v w n i (and_right (same_words v w n) _ h) l (λ k. one_by_one v w n (and_left _ _ h) i k)
+one_by_one v w (suc n) h i l = by_last_lem v w n i ((and_parts (same_words v w n) _ h).1) l (λ k. one_by_one v w n ((and_parts _ _ h).0) i k)
 
 pub same_lists : (v w : List ℕ) → length v ≡ reader_words → length w ≡ reader_words → same_words v w reader_words ≡ true → v ≡ w
 same_lists v w p q h = ext_get_or 0 v w (p ∙ sym q) (λ i k. one_by_one v w reader_words h i (omega arith))

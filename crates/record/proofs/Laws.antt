@@ -10,7 +10,7 @@ use lib.Dec.{eqb, ltb, lit≤}
 use borrow.Author.Tests.{eqb-true, ltb-true, ltb-false, not-false, eq-eqb, ne_eqb, lt-ltb, le-ltb}
 use Rattle.laws.specs.Words.{number_at}
 use Rattle.laws.specs.Tests.{first_of}
-use Rattle.laws.proofs.Choice.{and_left, and_right}
+use Rattle.std.proofs.lemmas.Bool.{and_parts}
 use Rattle.laws.proofs.Every.{Every, every_at, every_weaken, any_false, first_zero}
 use Rattle.registers.specs.Banks.{reg, is_register}
 use Rattle.registers.specs.declared.RegSpec.{RegSpec}
@@ -97,7 +97,7 @@ unfolding is_record
 record_long b e =
     let some = ltb 0 (length b) in
     let long = eqb (length b) (record_length (get_or b 0 0)) in
-    kind_long (get_or b 0 0) (length b) (ltb-true 0 (length b) (and_left some long e)) (eqb-true (length b) (record_length (get_or b 0 0)) (and_right some long e))
+    kind_long (get_or b 0 0) (length b) (ltb-true 0 (length b) ((and_parts some long e).0)) (eqb-true (length b) (record_length (get_or b 0 0)) ((and_parts some long e).1))
 
 -- The digest, by kind
 module _ (b : List ℕ) where

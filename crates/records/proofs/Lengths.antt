@@ -8,7 +8,7 @@ use lib.ListN.{length, get_or}
 use lib.Dec.{ltb, eqb}
 use borrow.Author.Tests.{eqb-true, ltb-true}
 use Rattle.laws.specs.Tests.{any, is_in}
-use Rattle.laws.proofs.Choice.{and_left, and_right}
+use Rattle.std.proofs.lemmas.Bool.{and_parts}
 use Rattle.record.specs.Records.{record_kind, segment_kind, everyday_kind, record_bytes, segment_bytes, everyday_bytes, record_length, is_record}
 use Rattle.records.specs.Lists.{record_lengths}
 
@@ -27,4 +27,4 @@ unfolding is_record
 record_length_lem b e =
     let some = ltb 0 (length b) in
     let long = eqb (length b) (record_length (get_or b 0 0)) in
-    kind_length (get_or b 0 0) (length b) (ltb-true 0 (length b) (and_left some long e)) (eqb-true (length b) (record_length (get_or b 0 0)) (and_right some long e))
+    kind_length (get_or b 0 0) (length b) (ltb-true 0 (length b) ((and_parts some long e).0)) (eqb-true (length b) (record_length (get_or b 0 0)) ((and_parts some long e).1))

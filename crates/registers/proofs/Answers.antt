@@ -10,7 +10,7 @@ use lib.ListN.{length, get_or}
 use lib.Dec.{ltb, eqb}
 use borrow.Author.Tests.{eqb-true, ltb-true, eq-eqb, ne_eqb, lt-ltb, le-ltb}
 use Rattle.laws.specs.Words.{number_at}
-use Rattle.laws.proofs.Choice.{and_left, and_right}
+use Rattle.std.proofs.lemmas.Bool.{and_parts}
 use Rattle.registers.specs.Files.{file_kind, based_kind, file_bytes, based_bytes, file_values, file_length, file_of, is_file, FileLong, file_answer}
 use Rattle.registers.specs.Told.{file_refusal}
 use Rattle.registers.specs.declared.RegisterFile.{RegisterFile}
@@ -67,8 +67,8 @@ module _ (b : List ℕ) where
   file_long z =
       let some = ltb 0 (length b) in
       let long = eqb (length b) (file_length (get_or b 0 0)) in
-      let both = and_left (some && long) (ltb (number_at b 1 4) (2 ^ file_values (get_or b 0 0))) (is_file_lem z) in
-      kind_long (get_or b 0 0) (length b) (ltb-true 0 (length b) (and_left some long both)) (eqb-true (length b) (file_length (get_or b 0 0)) (and_right some long both))
+      let both = (and_parts (some && long) (ltb (number_at b 1 4) (2 ^ file_values (get_or b 0 0))) (is_file_lem z)).0 in
+      kind_long (get_or b 0 0) (length b) (ltb-true 0 (length b) ((and_parts some long both).0)) (eqb-true (length b) (file_length (get_or b 0 0)) ((and_parts some long both).1))
 
   pub bad : 3 ≡ file_refusal b → Err BadFile ≡ answered_by (file_refusal b) (tt {0})
   bad e = rw (← e)

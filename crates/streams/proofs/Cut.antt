@@ -11,7 +11,7 @@ use lib.ListN.{length, get_or, take, drop, length-append, length-drop}
 use lib.Seq.{take_at, drop_at, append_snoc}
 use lib.Dec.{ltb, eqb}
 use Rattle.laws.specs.Lists.{flat}
-use Rattle.laws.proofs.Choice.{either}
+use Rattle.std.proofs.lemmas.Bool.{cond_both}
 use Rattle.laws.proofs.Every.{Every, every_append}
 use Rattle.streams.specs.Cuts.{Saying, quiet, told, said_by, Front, ended, unknown, inside, whole, Told, tells, before, front_by, on_front, told_from, told_of, Reader, reader, Move, halts, keeps, ends, move_by, Fed, waits, says, stops, further, on_saying, on_move, fed_from, on_fed, handed, handed_of, handed_all, closing_of}
 
@@ -28,9 +28,9 @@ Shorter x (whole item rest) = length rest < length x
 shorter : (long : ℕ → ℕ) (x : List ℕ) → Shorter x (front_by long x)
 unfolding front_by
 shorter long x =
-    either (Shorter x) (eqb (length x) 0) _ _ (λ t. tt)
-    (λ t. either (Shorter x) (eqb (long (get_or x 0 0)) 0) _ _ (λ u. tt)
-    (λ u. either (Shorter x) (ltb (length x) (long (get_or x 0 0))) _ _ (λ v. tt)
+    cond_both (eqb (length x) 0) _ _ (Shorter x) (λ t. tt)
+    (λ t. cond_both (eqb (long (get_or x 0 0)) 0) _ _ (Shorter x) (λ u. tt)
+    (λ u. cond_both (ltb (length x) (long (get_or x 0 0))) _ _ (Shorter x) (λ v. tt)
     (λ v. omega (arith, eqb-false (length x) 0 t, eqb-false (long (get_or x 0 0)) 0 u, length-drop (long (get_or x 0 0)) x))))
 
 just_long : (n m : ℕ) → m ≤ n → (m ≡ 0 → ⊥) → (m < n → m ≡ 0) → n ≡ m
@@ -105,9 +105,9 @@ module _ {F A : Type 0} (long : ℕ → ℕ) (mean : F → List ℕ → F × Say
       → of f (item ++ y) ≡ on_byte f y (move_by long mean f item)
   unfolding move_by
   item_moves f item y h most =
-      either (λ m. of f (item ++ y) ≡ on_byte f y m) (eqb (long (get_or item 0 0)) 0) _ _
+      cond_both (eqb (long (get_or item 0 0)) 0) _ _ (λ m. of f (item ++ y) ≡ on_byte f y m)
       (λ t. unrolled f (item ++ y) ∙ rw (unknown_front item y h (eqb-true (long (get_or item 0 0)) 0 t)))
-      (λ t. either (λ m. of f (item ++ y) ≡ on_byte f y m) (ltb (length item) (long (get_or item 0 0))) _ _ (λ u. refl)
+      (λ t. cond_both (ltb (length item) (long (get_or item 0 0))) _ _ (λ m. of f (item ++ y) ≡ on_byte f y m) (λ u. refl)
       (λ u.
       let z : long (get_or item 0 0) ≡ 0 → ⊥ = eqb-false (long (get_or item 0 0)) 0 t in
       let v : long (get_or item 0 0) ≤ length item = ltb-false (length item) (long (get_or item 0 0)) u in
@@ -145,8 +145,8 @@ module _ {F A : Type 0} (long : ℕ → ℕ) (mean : F → List ℕ → F × Say
   open_move : (f : F) (item : List ℕ) → OpenMove (move_by long mean f item)
   unfolding move_by
   open_move f item =
-      either OpenMove (eqb (long (get_or item 0 0)) 0) _ _ (λ t. tt)
-      (λ t. either OpenMove (ltb (length item) (long (get_or item 0 0))) _ _ (λ u. inr (ltb-true (length item) (long (get_or item 0 0)) u)) (λ u. tt))
+      cond_both (eqb (long (get_or item 0 0)) 0) _ _ OpenMove (λ t. tt)
+      (λ t. cond_both (ltb (length item) (long (get_or item 0 0))) _ _ OpenMove (λ u. inr (ltb-true (length item) (long (get_or item 0 0)) u)) (λ u. tt))
 
   by_move : (f : F) (kept : List ℕ) (b : ℕ) (c : List ℕ) (m : Move F A) → OpenMove m
       → ((y : List ℕ) → of f (kept ++ (b ∷ y)) ≡ on_byte f y m)
@@ -186,8 +186,8 @@ module _ {F A : Type 0} (long : ℕ → ℕ) (mean : F → List ℕ → F × Say
           → OkMove item (move_by long mean f item)
       unfolding move_by
       ok_move f item h most bs q =
-          either (OkMove item) (eqb (long (get_or item 0 0)) 0) _ _ (λ t. eqb-true (long (get_or item 0 0)) 0 t)
-          (λ t. either (OkMove item) (ltb (length item) (long (get_or item 0 0))) _ _ (λ u. inr (ltb-true (length item) (long (get_or item 0 0)) u))
+          cond_both (eqb (long (get_or item 0 0)) 0) _ _ (OkMove item) (λ t. eqb-true (long (get_or item 0 0)) 0 t)
+          (λ t. cond_both (ltb (length item) (long (get_or item 0 0))) _ _ (OkMove item) (λ u. inr (ltb-true (length item) (long (get_or item 0 0)) u))
           (λ u. okay f item
           (just_long (length item) (long (get_or item 0 0)) (ltb-false (length item) (long (get_or item 0 0)) u) (eqb-false (long (get_or item 0 0)) 0 t) most) h bs q))
 
@@ -213,8 +213,8 @@ module _ {F A : Type 0} (long : ℕ → ℕ) (mean : F → List ℕ → F × Say
       keeps_them : (f : F) (item : List ℕ) → Keeps item (move_by long mean f item)
       unfolding move_by
       keeps_them f item =
-          either (Keeps item) (eqb (long (get_or item 0 0)) 0) _ _ (λ t. tt)
-          (λ t. either (Keeps item) (ltb (length item) (long (get_or item 0 0))) _ _ (λ u. refl) (λ u. tt))
+          cond_both (eqb (long (get_or item 0 0)) 0) _ _ (Keeps item) (λ t. tt)
+          (λ t. cond_both (ltb (length item) (long (get_or item 0 0))) _ _ (Keeps item) (λ u. refl) (λ u. tt))
 
       ok_by : (f : F) (kept : List ℕ) (b : ℕ) (c : List ℕ) (m : Move F A) → Open kept → OkMove (kept ++ (b ∷ [])) m → Keeps (kept ++ (b ∷ [])) m
           → Q f → Every B (kept ++ (b ∷ []))

@@ -11,7 +11,7 @@ use lib.Dec.{ltb, eqb}
 use Rattle.laws.specs.Tests.{first_of}
 use Rattle.laws.specs.Lists.{flat}
 use Rattle.laws.specs.Lending.{splice}
-use Rattle.laws.proofs.Choice.{either, and_left, and_right}
+use Rattle.std.proofs.lemmas.Bool.{and_parts, cond_both}
 use Rattle.laws.proofs.Every.{Every, every_at}
 use Rattle.registers.specs.Files.{file_kind, based_kind, file_bytes, based_bytes, file_length, file_of, is_file}
 use Rattle.registers.specs.declared.RegisterFile.{RegisterFile}
@@ -80,8 +80,8 @@ module _ (Q : List ℕ → Type 0) (B : ℕ → Type 0) (keep : (item : List ℕ
   items_okay : (f item : List ℕ) → length item ≡ length_of (get_or item 0 0) → 0 < length item → Every B item → Q f → Meant (meaning f item)
   unfolding meaning
   items_okay f item e h bs q =
-      either Meant (of_file (get_or item 0 0)) _ _
-      (λ t. either Meant (is_file item) _ _ (λ u. (tt, keep item u bs)) (λ u. (((λ (z : 3 ≡ 1). omega arith), (λ (z : 3 ≡ 7). omega arith), (λ (z : 3 ≡ 8). omega arith)), q)))
+      cond_both (of_file (get_or item 0 0)) _ _ Meant
+      (λ t. cond_both (is_file item) _ _ Meant (λ u. (tt, keep item u bs)) (λ u. (((λ (z : 3 ≡ 1). omega arith), (λ (z : 3 ≡ 7). omega arith), (λ (z : 3 ≡ 8). omega arith)), q)))
       (λ t. (record_finished f item (record_item item e h t), q))
 
 not_zero : (k : ℕ) → suc k ≡ 0 → ⊥
@@ -118,8 +118,8 @@ taking c (stops g n) k =
 pub calls_take : promised.CallsTake
 unfolding feed
 calls_take r c n h =
-    either P r.stopped _ _ (λ t. (record { within = omega arith; all = λ h e. absurd (not_zero 0 e); some = λ h. absurd (no_true h); number = λ h. absurd (no_true h) }, h, λ s. absurd (no_false (sym t ∙ s))))
-    (λ t. either P (ltb n most_bytes) _ _ (λ u. (record { within = omega arith; all = λ h e. absurd (not_zero 6 e); some = λ h. absurd (no_true h); number = λ h. absurd (no_true h) }, h, λ s e. absurd (seven e)))
+    cond_both r.stopped _ _ P (λ t. (record { within = omega arith; all = λ h e. absurd (not_zero 0 e); some = λ h. absurd (no_true h); number = λ h. absurd (no_true h) }, h, λ s. absurd (no_false (sym t ∙ s))))
+    (λ t. cond_both (ltb n most_bytes) _ _ P (λ u. (record { within = omega arith; all = λ h e. absurd (not_zero 6 e); some = λ h. absurd (no_true h); number = λ h. absurd (no_true h) }, h, λ s e. absurd (seven e)))
     (λ u.
     let fed = ok_fed length_of meaning unknown_kind Finished Latest AnyByte (items_okay Latest AnyByte (λ item g bs. inr g)) r.file r.kept c h.parted h.latest (anything r.kept) (anything c) in
     let k = taking c (fed_from length_of meaning r.file r.kept c) fed in
@@ -148,8 +148,8 @@ bytes_of_lem c (stops g n) k = (all_bytes [] tt, k.2)
 pub bytes_stay : promised.BytesStay
 unfolding feed
 bytes_stay r c n p hk hf hc =
-    either P r.stopped _ _ (λ t. (hk, hf))
-    (λ t. either P (ltb n most_bytes) _ _ (λ u. (hk, hf))
+    cond_both r.stopped _ _ P (λ t. (hk, hf))
+    (λ t. cond_both (ltb n most_bytes) _ _ P (λ u. (hk, hf))
     (λ u. bytes_of_lem c (fed_from length_of meaning r.file r.kept c)
     (ok_fed length_of meaning unknown_kind Finished Bytes IsByte (items_okay Bytes IsByte (λ item g bs. all_bytes item bs)) r.file r.kept c p hf (each_byte r.kept hk) (each_byte c hc))))
   where
@@ -184,17 +184,17 @@ apart k h = by (eqb k file_kind) (eqb k based_kind) refl refl
 record_long : (b : List ℕ) → is_record b ≡ true → (0 < length b) × (length b ≡ length_of (get_or b 0 0)) × (of_file (get_or b 0 0) ≡ false)
 unfolding is_record length_of
 record_long b h =
-    let some : 0 < length b = ltb-true 0 (length b) (and_left _ _ h) in
-    let long : length b ≡ record_length (get_or b 0 0) = eqb-true (length b) (record_length (get_or b 0 0)) (and_right (ltb 0 (length b)) _ h) in
+    let some : 0 < length b = ltb-true 0 (length b) ((and_parts _ _ h).0) in
+    let long : length b ≡ record_length (get_or b 0 0) = eqb-true (length b) (record_length (get_or b 0 0)) ((and_parts (ltb 0 (length b)) _ h).1) in
     let no_file_lem : of_file (get_or b 0 0) ≡ false = apart (get_or b 0 0) (omega arith) in
     (some, rw no_file_lem long, no_file_lem)
 
 file_long : (f : List ℕ) → is_file f ≡ true → (0 < length f) × (length f ≡ length_of (get_or f 0 0)) × (of_file (get_or f 0 0) ≡ true)
 unfolding is_file length_of of_file
 file_long f h =
-    let both = and_left (ltb 0 (length f) && eqb (length f) (file_length (get_or f 0 0))) _ h in
-    let some : 0 < length f = ltb-true 0 (length f) (and_left _ _ both) in
-    let long : length f ≡ file_length (get_or f 0 0) = eqb-true (length f) (file_length (get_or f 0 0)) (and_right (ltb 0 (length f)) _ both) in
+    let both = (and_parts (ltb 0 (length f) && eqb (length f) (file_length (get_or f 0 0))) _ h).0 in
+    let some : 0 < length f = ltb-true 0 (length f) ((and_parts _ _ both).0) in
+    let long : length f ≡ file_length (get_or f 0 0) = eqb-true (length f) (file_length (get_or f 0 0)) ((and_parts (ltb 0 (length f)) _ both).1) in
     let file : ltb 0 (file_length (get_or f 0 0)) ≡ true = lt-ltb 0 (file_length (get_or f 0 0)) (omega arith) in
     (some, rw file long, file)
 

@@ -10,7 +10,7 @@ use lib.Dec.{ltb, eqb}
 use borrow.Author.Tests.{ltb-true, ltb-false}
 use Rattle.std.specs.Prelude.{Option, None, Some}
 use Rattle.std.specs.Bool.{then_some}
-use Rattle.laws.proofs.Choice.{either}
+use Rattle.std.proofs.lemmas.Bool.{cond_both}
 use Rattle.definition.specs.Limits.{most_events}
 use Rattle.definition.specs.Visits.{number_of}
 use Rattle.definition.specs.declared.Answer.{Answer}
@@ -120,7 +120,7 @@ pub record Bounded (w : Watch) : Type 0 where
   pub refused : w.refused ≤ w.pairs
 
 refusals_few : (a : Answer) → refusals a ≤ 1
-refusals_few a = either (λ n. n ≤ 1) (eqb (number_of a) 0) 0 1 (λ t. omega arith) (λ t. omega arith)
+refusals_few a = cond_both (eqb (number_of a) 0) 0 1 (λ n. n ≤ 1) (λ t. omega arith) (λ t. omega arith)
 
 pub fresh_bounded : (v : Variable) → Bounded (fresh v)
 unfolding fresh

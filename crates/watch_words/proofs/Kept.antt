@@ -9,7 +9,7 @@ use lib.Dec.{eqb}
 use borrow.Author.Tests.{ne_eqb, eqb-true}
 use Rattle.std.specs.Prelude.{Option, None, Some, Result, IfOk}
 use Rattle.laws.specs.declared.refusals.Refusal.{Refusal}
-use Rattle.laws.proofs.Choice.{either}
+use Rattle.std.proofs.lemmas.Bool.{cond_both}
 use Rattle.definition.specs.Readings.{read_at}
 use Rattle.definition.specs.declared.Reading.{Reading}
 use Rattle.definition.specs.declared.Reading.TheVariants.{Found, Bad, Finished}
@@ -33,7 +33,7 @@ Few r = IfOk r (λ s. total s.tally < 2 ^ 8)
 pub step_few : (w : Watch) (p : Pair) → Few (step_of w p)
 unfolding step_of taken
 step_few w p =
-    either Few (is_taking w) _ _ (λ t. omega (arith, pair_few w.variable p)) (λ t. tt)
+    cond_both (is_taking w) _ _ Few (λ t. omega (arith, pair_few w.variable p)) (λ t. tt)
 
 -- a named event ends further on, and is not long
 abbrev Leads : ℕ → Naming → Type 0
@@ -51,7 +51,7 @@ pub name_leads :
     → (at < next) × (next - at ≤ 10)
 unfolding name_at
 name_leads v l at h =
-    subst (Leads at) h (either (Leads at) (is_length v.length) _ _ (λ t. named_leads v l at (read_at l at) refl) (λ t. tt))
+    subst (Leads at) h (cond_both (is_length v.length) _ _ (Leads at) (λ t. named_leads v l at (read_at l at) refl) (λ t. tt))
 
 -- THE WORDS ARE KEPT: whatever ten words a caller has, the watch that they are has these words; so a refused step leaves them
 when_kept : (n : ℕ) (t : Bool) → eqb n never ≡ t → when_word (cond t None (Some n)) ≡ n

@@ -2,7 +2,7 @@
 use Rattle.std.proofs.Common.{◌≡◌, ℕ, zero, suc, ◌+◌, ◌-◌, ◌%◌, ◌^◌, ◌<◌, ◌≤◌, Bool, true, false, cond, eqb, ltb, leb, List, sym, refl, ◌∙◌, arith, ltb-false, ltb-true, le-ltb, lt-ltb, eq-eqb, ne_eqb, eqb-true, leb-true}
 use borrow.Author.Tests.{eqb-false}
 use Rattle.laws.specs.Tests.{any, is_in}
-use Rattle.laws.proofs.Choice.{and_left, and_right}
+use Rattle.std.proofs.lemmas.Bool.{and_parts}
 use Rattle.definition.specs.Addresses.{word}
 use Rattle.definition.specs.Readings.{is_size}
 use Rattle.watching.specs.Verdicts.{is_length, bytes_from, among, judged, store_verdict}
@@ -161,15 +161,15 @@ module _ (v a length n : ℕ) (hv : v < 2 ^ 64) (ha : a < 2 ^ 64) (l1 : 1 ≤ le
 -- what length and size are, from the tests that a watch and a log passed
 module _ (v : Variable) (a n : ℕ) (hv : v.address < 2 ^ 64) (ha : a < 2 ^ 64) (hl : is_length v.length ≡ true) (hn : is_size n ≡ true) where
   long : 1 ≤ v.length
-  long = leb-true 1 v.length (and_left (leb 1 v.length) (leb v.length 8) hl)
+  long = leb-true 1 v.length ((and_parts (leb 1 v.length) (leb v.length 8) hl).0)
 
   some : 1 ≤ n
-  some = leb-true 1 n (and_left (leb 1 n) (leb n 64) hn)
+  some = leb-true 1 n ((and_parts (leb 1 n) (leb n 64) hn).0)
 
   room : v.length + n ≤ 2 ^ 64
   room =
-      let l = leb-true v.length 8 (and_right (leb 1 v.length) (leb v.length 8) hl) in
-      let m = leb-true n 64 (and_right (leb 1 n) (leb n 64) hn) in omega arith
+      let l = leb-true v.length 8 ((and_parts (leb 1 v.length) (leb v.length 8) hl).1) in
+      let m = leb-true n 64 ((and_parts (leb 1 n) (leb n 64) hn).1) in omega arith
 
   -- the variable starts so far behind the store's start, or the store behind the variable's
   pub store_whole : behind v.address a < n → v.length ≤ n - behind v.address a → WholeTouched ≡ store_verdict v a n

@@ -1,7 +1,7 @@
 -- A step case by case, on plain variables. Assumes nothing.
 use Rattle.std.proofs.Common.{◌≡◌, ℕ, suc, ◌<◌, ◌≤◌, Bool, true, false, ◌&&◌, not, eqb, List, [], ◌∷◌, map, length, take, Ok, Err, sym, refl, ap, ◌∙◌, arith, le-ltb, lt-ltb, eq-eqb, ne_eqb}
 use Rattle.laws.specs.declared.refusals.Refusal.TheVariants.{Outside}
-use Rattle.laws.proofs.Choice.{either}
+use Rattle.std.proofs.lemmas.Bool.{cond_both}
 use Rattle.registers.specs.Files.{file_of, is_file}
 use Rattle.record.specs.Records.{record_of}
 use Rattle.definition.specs.Limits.{most_events, most_bytes}
@@ -105,7 +105,7 @@ module _ (b f : List ℕ) (a : Answer) (log : List ℕ) (visited : (a, log) ≡ 
 logged_few : (p : Pair) → length (logged_by p) ≤ most_events
 unfolding logged_by log_of
 logged_few p =
-    either (λ (es : List Event). length es ≤ most_events) (eqb (number_of (answer_to p)) 0) _ _
+    cond_both (eqb (number_of (answer_to p)) 0) _ _ (λ (es : List Event). length es ≤ most_events)
     (λ t. log_events_lem (file_of p.1) (fixed_record p.0)) (λ t. omega arith)
 
 map_length : {A B : Type 0} (f : A → B) (xs : List A) → length (map f xs) ≡ length xs

@@ -2,7 +2,7 @@
 use Rattle.std.proofs.Common.{◌≡◌, ℕ, suc, ◌+◌, ◌-◌, ◌*◌, ◌%◌, ◌^◌, ◌<◌, ◌≤◌, Bool, true, cond, leb, arith, leb-true}
 use native.Mathlib.Nat.{pow-le-pow_right, sub_self, sub-zero}
 use Rattle.laws.specs.Tests.{is_in}
-use Rattle.laws.proofs.Choice.{and_right}
+use Rattle.std.proofs.lemmas.Bool.{and_parts}
 use Rattle.definition.specs.Addresses.{word}
 use Rattle.sets.specs.Sets.{bits_from}
 use Rattle.sets.proofs.Bits.{bits_below}
@@ -32,7 +32,7 @@ module _ (p : ℕ → Bool) where
   -- where a byte is still to come, there is room for its bit
   pub bits_few : (length i : ℕ) → is_length length ≡ true → 0 < i → bits_from p i (length - i) < 2 ^ 7
   bits_few length i h k =
-      let most = leb-true length 8 (and_right (leb 1 length) (leb length 8) h) in
+      let most = leb-true length 8 ((and_parts (leb 1 length) (leb length 8) h).1) in
       let few : length - i ≤ 7 = omega arith in
       let below : 2 ^ (length - i) ≤ 2 ^ 7 = pow-le-pow_right (omega arith) few in
       omega (arith, bits_below p i (length - i), below)

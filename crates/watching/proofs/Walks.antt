@@ -1,7 +1,7 @@
 -- A walk over a log, event by event. Assumes nothing.
 use Rattle.std.proofs.Common.{◌≡◌, ℕ, zero, suc, ◌+◌, ◌-◌, ◌<◌, ◌≤◌, true, false, ◌||◌, eqb, ltb, List, [], ◌∷◌, length, drop, sym, refl, ap, ◌∙◌, subst, arith, drop-drop}
 use native.Mathlib.Nat.{sub-zero}
-use Rattle.laws.proofs.Choice.{either}
+use Rattle.std.proofs.lemmas.Bool.{cond_both}
 use Rattle.definition.specs.declared.Event.{Event}
 use Rattle.definition.specs.declared.Reading.{Reading}
 use Rattle.definition.specs.declared.Reading.TheVariants.{Found, Bad, Finished}
@@ -70,8 +70,8 @@ front_good : (l : List ℕ) → Good (read_front l)
 unfolding read_front
 front_good [] = tt
 front_good (k ∷ l) =
-    either Good (eqb (body_of k) 0 || ltb (length l) (body_of k)) _ _ (λ t. tt)
-    (λ t. either Good (is_event (front_event (k ∷ l))) _ _ (λ u. u) (λ u. tt))
+    cond_both (eqb (body_of k) 0 || ltb (length l) (body_of k)) _ _ Good (λ t. tt)
+    (λ t. cond_both (is_event (front_event (k ∷ l))) _ _ Good (λ u. u) (λ u. tt))
 
 placed_good : (at : ℕ) (r : Reading) → Good r → Good (placed at r)
 placed_good at (Found e k) g = g
