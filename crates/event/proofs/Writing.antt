@@ -1,9 +1,9 @@
 -- What the stores of a writer leave is the event's bytes. Assumes nothing.
 use Prim.Native.Nat.{ℕ, ◌≤◌}
 use native.Mathlib.Omega.{arith}
-use mathlib.Core.Path.{◌≡◌, refl, ◌∙◌}
+use mathlib.Core.Path.{◌≡◌, refl}
 use mathlib.Core.List.{List, [], ◌∷◌, ◌++◌}
-use lib.ListN.{length, drop, set, length-set, length-append, length-drop}
+use lib.ListN.{length, drop, set, length-append, length-drop}
 use Rattle.laws.specs.Words.{little}
 use Rattle.laws.proofs.Lending.{part, back, laid, stored}
 use Rattle.laws.proofs.Numbers.{little_length}
@@ -11,14 +11,11 @@ use Rattle.definition.specs.Logs.{memory_bytes}
 
 -- a kind, an address through the part that is lent on, and a size
 module _ (kind a : ℕ) (old : List ℕ) {new : List ℕ} (room : 10 ≤ length old) (lent : new ≡ little 8 a ++ drop 8 (part (set old 0 kind) 1)) where
-  pub addressed : back (set old 0 kind) 1 new ≡ (kind ∷ little 8 a) ++ drop 9 old
+  addressed : back (set old 0 kind) 1 new ≡ (kind ∷ little 8 a) ++ drop 9 old
   addressed = laid (kind ∷ []) (little 8 a) old 8 refl (stored [] old kind refl (omega arith)) lent
 
-  pub keeps_length : length (back (set old 0 kind) 1 new) ≡ length old
-  keeps_length = rw addressed (simp (length-append, length-drop, little_length) (omega arith))
-
-  pub known_length : (n : ℕ) → length (set (back (set old 0 kind) 1 new) 9 n) ≡ length old
-  known_length n = length-set (back (set old 0 kind) 1 new) 9 n ∙ keeps_length
+  pub address_kept : length (back (set old 0 kind) 1 new) ≡ length old
+  address_kept = rw addressed (simp (length-append, length-drop, little_length) (omega arith))
 
   pub known_bytes : (n : ℕ) → set (back (set old 0 kind) 1 new) 9 n ≡ memory_bytes kind a n ++ drop 10 old
   unfolding little

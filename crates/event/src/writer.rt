@@ -18,6 +18,7 @@ fn kind_of(way: Way, read: u8) -> u8
     }
 }
 
+#[tactic(auto, using(crate::proofs::ByWay::register_room))]
 pub fn put_register(log: &mut [u8], way: Way, y: RegSpec) -> usize
     requires { size event_bytes (move_event way y ∷ []) ≤ length log.old }
     ensures { Logged event_bytes (move_event way y ∷ []) log.old log.new result }
@@ -29,6 +30,7 @@ pub fn put_register(log: &mut [u8], way: Way, y: RegSpec) -> usize
 }
 
 // A read or a write of n bytes of memory, at an address that may be unknown.
+#[tactic(auto, using(crate::proofs::ByWay::memory_room))]
 pub fn put_memory(log: &mut [u8], way: Way, at: Value, n: u8) -> usize
     requires { size event_bytes (memory_event way at n ∷ []) ≤ length log.old }
     ensures { Logged event_bytes (memory_event way at n ∷ []) log.old log.new result }

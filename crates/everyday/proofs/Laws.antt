@@ -1,36 +1,22 @@
--- The rows of the table, by opcode: no row, and what every row keeps to. Assumes nothing.
+-- The rows of the table, by opcode: what every row keeps to. Assumes nothing.
 use Rattle.std.specs.Prelude.{Result, Ok, Err}
 use Prim.Native.Nat.{ℕ, ◌/◌, ◌%◌, ◌≤◌}
 use mathlib.Core.Path.{◌≡◌, refl}
 use mathlib.Core.List.{List, [], ◌∷◌}
 use mathlib.Core.Bool.{Bool, true, false, not, cond}
 use lib.Dec.{eqb, ltb, lit≤}
-use borrow.Author.Tests.{eqb-true, ltb-false, ne_eqb, not-false}
+use borrow.Author.Tests.{eqb-true, ltb-false, not-false}
 use Rattle.laws.specs.Tests.{any, some_of}
 use Rattle.laws.proofs.Every.{Every, every_weaken, any_false}
 use Rattle.digest.specs.Digests.{digest_in, digest_number}
 use Rattle.digest.specs.declared.BehaviorDigest.{BehaviorDigest}
-use Rattle.everyday.specs.Rows.{rows, unlisted, lookup, everyday_digest}
-use Rattle.everyday.specs.Codes.{code_of, digest_from}
+use Rattle.everyday.specs.Rows.{rows, lookup, everyday_digest, is_everyday}
+use Rattle.everyday.specs.Codes.{code_of, code_at, digest_from}
 use Rattle.laws.specs.declared.refusals.Refusal.{Refusal}
 use Rattle.laws.specs.declared.refusals.Refusal.TheVariants.{Unlisted}
 
 abbrev Row : Type 0
 Row = ℕ × BehaviorDigest
-
--- o is none of the rows' opcodes, in the order in which a match rules them out; X is what was ruled out before them
-abbrev pub Ruled : Type 0 → ℕ → List Row → Type 0
-Ruled X o [] = X
-Ruled X o (r ∷ rs) = Ruled (X × (o ≡ r.0 → ⊥)) o rs
-
-before : (X : Type 0) (o : ℕ) (rs : List Row) → Ruled X o rs → X
-before X o [] h = h
-before X o (r ∷ rs) h = (before (X × (o ≡ r.0 → ⊥)) o rs h).0
-
-pub no_row : (X : Type 0) (o : ℕ) (rs : List Row) → Ruled X o rs → lookup o rs ≡ Err Unlisted
-no_row X o [] h = refl
-no_row X o (r ∷ rs) h =
-    rw (ne_eqb o r.0 (before (X × (o ≡ r.0 → ⊥)) o rs h).1) (no_row (X × (o ≡ r.0 → ⊥)) o rs h)
 
 -- what holds of every row and of none holds of what is found
 found : (P : Result BehaviorDigest Refusal → Type 0) (o : ℕ) (rs : List Row) → Every (λ (r : Row). P (Ok r.1)) rs → P (Err Unlisted) → P (lookup o rs)
@@ -77,3 +63,12 @@ held o =
     found Held o rows
     (every_weaken (λ (r : Row). unheld r.1 ≡ false) (λ (r : Row). Held (Ok r.1)) (λ (r : Row). held_row r.1) rows (any_false (λ (r : Row). unheld r.1) rows refl))
     (record { digest = refl; there = refl; list = lit≤ tt })
+
+-- an opcode's code, as the code of the table has it
+pub digest_held : (o c : ℕ) → c ≡ code_at o → digest_from c ≡ digest_in (everyday_digest o)
+unfolding code_at
+digest_held o c e = rw e (held o).digest
+
+pub there_held : (o c : ℕ) → c ≡ code_at o → not (eqb c 0) ≡ is_everyday o
+unfolding code_at is_everyday
+there_held o c e = rw e (held o).there

@@ -10,6 +10,7 @@ use digest::BehaviorDigest;
 
 // The digest of an opcode as the number that its four bytes are: the list, the accesses of the operands, the behavior. 0 where the
 // opcode has none.
+#[tactic(auto, unfolding(crate::specs::Codes::code_at, crate::specs::Rows::everyday_digest))]
 fn code_of(opcode: u16) -> u32
     ensures { result ≡ code_at opcode }
 {
@@ -48,6 +49,7 @@ fn code_of(opcode: u16) -> u32
 }
 
 // The base digest of an opcode, empty where it has none.
+#[tactic(auto, using(crate::proofs::Laws::digest_held), unfolding(crate::specs::Codes::code_at))]
 pub fn everyday_digest(opcode: u16) -> BehaviorDigest
     ensures { result ≡ digest_in (everyday_digest opcode) }
 {
@@ -59,6 +61,7 @@ pub fn everyday_digest(opcode: u16) -> BehaviorDigest
     }
 }
 
+#[tactic(auto, using(crate::proofs::Laws::there_held))]
 pub fn is_everyday(opcode: u16) -> bool
     ensures { result ≡ is_everyday opcode }
 {

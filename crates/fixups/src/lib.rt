@@ -35,6 +35,7 @@ pub fn digest_of(x: Record) -> BehaviorDigest
 }
 
 // The record with its digest after fix-ups. The test stands here too: most records need no fix-up, and no call.
+#[tactic(auto, using(crate::proofs::Narrow::with_fixups, crate::proofs::Narrow::without_fixups), unfolding(definition::specs::Behaviors::fixed_up))]
 pub fn fixed_up(mut x: Record) -> Record
     ensures { result ≡ fixed_up x }
 {
@@ -72,6 +73,7 @@ pub fn is_complex(x: Record) -> bool
     }
 }
 
+#[tactic(auto, using(access::proofs::Laws::level_number_lem), unfolding(definition::specs::Behaviors::may_protect))]
 fn may_protect(x: Record) -> bool
     ensures { result ≡ may_protect x }
 {

@@ -98,6 +98,7 @@ fn row_of(list: u16) -> u64
 }
 
 // The hexadecimal digits of a code are 0, a form, a bank and a number.
+#[tactic(auto, unfolding(crate::specs::Codes::entry_of))]
 fn entry_of(code: u16) -> Option<Entry>
     ensures { result ≡ entry_of code }
 {

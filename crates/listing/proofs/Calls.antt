@@ -1,13 +1,13 @@
 -- The outcomes of a listing, return by return. Assumes nothing.
 use Prim.Native.Nat.{ℕ, ◌≤◌}
 use mathlib.Core.Path.{◌≡◌, sym, ap, ◌∙◌}
-use mathlib.Core.Bool.{true, false}
+use mathlib.Core.Bool.{Bool, true, false}
 use mathlib.Core.List.{List}
 use lib.ListN.{length}
 use Rattle.laws.specs.Lending.{size, Logged, lacks_room}
 use Rattle.laws.proofs.Choice.{first_here, first_later}
 use Rattle.laws.proofs.Lending.{part, back}
-use Rattle.laws.proofs.Room.{has_left}
+use Rattle.laws.proofs.Room.{starts_inside, has_left}
 use Rattle.record.specs.Records.{record_of, record_refusal}
 use Rattle.record.specs.declared.Record.{Record}
 use Rattle.definition.specs.Behaviors.{fixed_up, complex}
@@ -19,19 +19,22 @@ use Rattle.listing.specs.Calls.{listed_from}
 
 -- of a record that passed: no room, written
 module _ (x : Record) (buffer : List ℕ) (start : ℕ) where
-  pub too_long : {n : ℕ} → lacks_room (length (listing_of x)) start (length buffer) ≡ true → n ≡ length (listing_of x) → (Short n, buffer) ≡ listed_from x buffer start
+  pub too_long : {n : ℕ} {t : Bool} → t ≡ lacks_room (length (listing_of x)) start (length buffer) → t ≡ true → n ≡ length (listing_of x) → (Short n, buffer) ≡ listed_from x buffer start
   unfolding listed_from
-  too_long h e = rw e (sym (refused_short x.opcode (listing_of x) buffer start (too_short (length (listing_of x)) buffer start h)))
+  too_long t h e = rw e (sym (refused_short x.opcode (listing_of x) buffer start (too_short (length (listing_of x)) buffer start (sym t ∙ h))))
 
-  pub listing_room : lacks_room (length (listing_of x)) start (length buffer) ≡ false → size item_bytes (items_of x) ≤ length (part buffer start)
+  pub starts_room : {t : Bool} → t ≡ lacks_room (length (listing_of x)) start (length buffer) → t ≡ false → start ≤ length buffer
+  starts_room e h = starts_inside (length (listing_of x)) start (length buffer) (sym e ∙ h)
+
+  pub listing_room : {t : Bool} → t ≡ lacks_room (length (listing_of x)) start (length buffer) → t ≡ false → size item_bytes (items_of x) ≤ length (part buffer start)
   unfolding size
-  listing_room h = lent_room buffer start (has_left (length (listing_of x)) start (length buffer) h)
+  listing_room t h = lent_room buffer start (has_left (length (listing_of x)) start (length buffer) (sym t ∙ h))
 
   pub fitting :
-      {ys : List ℕ} {n : ℕ} → lacks_room (length (listing_of x)) start (length buffer) ≡ false
+      {ys : List ℕ} {n : ℕ} {t : Bool} → t ≡ lacks_room (length (listing_of x)) start (length buffer) → t ≡ false
       → Logged item_bytes (items_of x) (part buffer start) ys n → (Done n, back buffer start ys) ≡ listed_from x buffer start
   unfolding listed_from
-  fitting h l = sym (written x.opcode buffer start (enough (length (listing_of x)) buffer start h) l)
+  fitting t h l = sym (written x.opcode buffer start (enough (length (listing_of x)) buffer start (sym t ∙ h)) l)
 
 -- of bytes: refused 1 or 2, refused 4, or as the record that they are
 module _ (b buffer : List ℕ) (start : ℕ) where

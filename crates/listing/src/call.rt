@@ -98,6 +98,7 @@ fn is_full(x: Record, start: usize, end: usize) -> bool
 }
 
 // The listing of a record after fix-ups, from the start on, or refusal 7.
+#[tactic(auto, using(crate::proofs::Calls::starts_room, crate::proofs::Calls::listing_room, crate::proofs::Calls::too_long, crate::proofs::Calls::fitting))]
 fn list_record(x: Record, out: &mut [u8], start: usize) -> Answer
     ensures { (result, out.new) ≡ listed_from x out.old start }
 {
