@@ -1,8 +1,6 @@
 -- What an append gives, by what visiting answered. Assumes nothing.
-use Rattle.std.proofs.Common.{◌≡◌, ℕ, ◌+◌, ◌≤◌, not, ◌⊎◌, List, length, take, drop, sym, ap, ◌∙◌, ⊎_elim, arith}
-use denote.Enum.Declared.{tag_of, declared}
+use Rattle.std.proofs.Common.{◌≡◌, ℕ, ◌+◌, ◌≤◌, not, List, length, take, drop, refl, sym, ap, ◌∙◌, arith}
 use Rattle.registers.specs.Files.{file_of, is_file}
-use Rattle.definition.specs.contracts.Answer.{enum}
 use Rattle.definition.specs.Visits.{log_of, visit_of}
 use Rattle.definition.specs.declared.Answer.{Answer}
 use Rattle.definition.specs.declared.Answer.TheVariants.{Done, Refused, Complex, Short}
@@ -12,14 +10,10 @@ use Rattle.promises.proofs.Whole.{visit_written, visit_inside, visit_reads}
 use Rattle.session.specs.declared.appends.Session.{Session}
 use Rattle.session.specs.Sessions.{further, appended}
 
--- an answer that is not Done
-abbrev pub NotDone : Answer → Type 0
-NotDone a = (tag_of (declared enum) a ≡ 1) ⊎ ((tag_of (declared enum) a ≡ 2) ⊎ (tag_of (declared enum) a ≡ 3))
-
 module _ (b f p : List ℕ) (s : Session) (new : List ℕ) where
-  pub append_refused : (a : Answer) → (a, new) ≡ visit_of b f p s.used → NotDone a → (a, (s, new)) ≡ appended b f (s, p)
+  pub append_refused : (a : Answer) → (a, new) ≡ visit_of b f p s.used → ((n : ℕ) → a ≡ Done n → ⊥) → (a, (s, new)) ≡ appended b f (s, p)
   unfolding appended
-  append_refused (Done n) visited t = absurd (⊎_elim (λ x. omega arith) (⊎_elim (λ x. omega arith) (λ x. omega arith)) t)
+  append_refused (Done n) visited t = absurd (t n refl)
   append_refused (Refused k) visited t = rw (← visited)
   append_refused (Complex o) visited t = rw (← visited)
   append_refused (Short n) visited t = rw (← visited)

@@ -35,6 +35,7 @@ impl Session {
     }
 
     // The n bytes behind those used are used too, and their events are counted: no other byte is read.
+    #[tactic(auto, unfolding(crate::specs::Sessions::further))]
     fn further(self, n: usize, log: &[u8]) -> Session
         requires { self.used + n ≤ length log.now }
         ensures { result ≡ further self n (events_in (whole_of (take n (drop self.used log.now)))) }
