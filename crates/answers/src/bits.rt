@@ -30,7 +30,7 @@ pub fn digest_bits(a: Result<BehaviorDigest, Refusal>) -> u64
                 + (d.operands as u64) * 0x1_0000
                 + (d.extra as u64) * 0x1_0000_0000
         }
-        Err(refusal) => u8::from(refusal) as u64,
+        Err(refusal) => u64::from(refusal),
     }
 }
 
@@ -39,7 +39,7 @@ pub fn privilege_bits(a: Result<PrivilegeLevel, Refusal>) -> u64
 {
     match a {
         Ok(level) => (level.to_bits() as u64) * 0x100,
-        Err(refusal) => u8::from(refusal) as u64,
+        Err(refusal) => u64::from(refusal),
     }
 }
 
@@ -48,7 +48,7 @@ pub fn exception_bits(a: Result<ExceptionInfo, Refusal>) -> u64
 {
     match a {
         Ok(info) => (info.vectors as u64) * 0x1_0000_0000,
-        Err(refusal) => u8::from(refusal) as u64,
+        Err(refusal) => u64::from(refusal),
     }
 }
 

@@ -11,7 +11,7 @@ pub fn event_bits(log: &[u8], at: usize) -> u64
     let found = event::read_event(log, at);
     match found {
         Reading::Found(_, next) => ((next - at) as u64) * 0x1_0000_0000,
-        Reading::Bad(refusal) => u64::from(u8::from(refusal)),
+        Reading::Bad(refusal) => u64::from(refusal),
         Reading::Finished => 255,
     }
 }

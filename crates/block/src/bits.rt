@@ -12,7 +12,7 @@ fn block_bits(a: Result<Blocked, Refusal>) -> u64
 {
     match a {
         Ok(b) => (b.count as u64) * 0x100 + (b.written as u64) * 0x1_0000_0000,
-        Err(refusal) => u64::from(u8::from(refusal)),
+        Err(refusal) => u64::from(refusal),
     }
 }
 

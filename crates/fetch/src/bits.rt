@@ -13,7 +13,7 @@ pub fn judge_bits(bytes: &[u8], each: usize, set: u32) -> u64
         Ok(Judgement::Accepted) => 0x100,
         Ok(Judgement::NoSuchBit) => 0,
         Ok(Judgement::Lacking(i, k)) => (k as u64) * 0x1_0000 + (i as u64) * 0x1_0000_0000,
-        Err(refusal) => u64::from(u8::from(refusal)),
+        Err(refusal) => u64::from(refusal),
     }
 }
 
@@ -23,6 +23,6 @@ pub fn propose_bits(bytes: &[u8], each: usize) -> u64
 {
     match crate::judging::propose(bytes, each) {
         Ok(set) => u64::from(set) * 0x1_0000_0000,
-        Err(refusal) => u64::from(u8::from(refusal)),
+        Err(refusal) => u64::from(refusal),
     }
 }

@@ -10,12 +10,10 @@ ghost use Rattle.fetch.specs.Parts.{shape_index, shape_segment, shape_needs, loa
 
 use crate::slots::{with_segment, with_term};
 use definition::Term;
+use moves::LEA;
 use operand::takes_base;
 use record::Record;
 use registers::names::{EDI, ESI, RDI, RSI};
-
-// Stays: an opcode is a number of document 01, of which this code names one alone.
-const LEA: u16 = 28;
 
 // The base of a memory spec: `regs[1]`, or the register that the spec names.
 // Stays: specs are numbers of document 01, and the arms read like its table.

@@ -2,7 +2,6 @@
 // Stays: there is no heap, so these bytes are no Vec, and how many they are stands in the feed.
 ghost use Rattle.std.specs.Prelude.{◌≡◌, ◌≤◌, ◌<◌, length};
 ghost use Rattle.filing.specs.Feeds.{header_bytes, length_bytes, part_size, start_feed, waiting_feed, headed, logged, sized, completed, state_of, is_full, pushed, fed, Ready, end_number};
-ghost use Rattle.laws.specs.Refusals.{refusal_number};
 ghost use Rattle.laws.specs.Words.{number_at};
 
 use laws::Refusal;
@@ -48,13 +47,6 @@ fn size_of(part: Part) -> usize
     }
 }
 
-// A refusal as `end_number` answers it.
-fn number_of(refusal: Refusal) -> u64
-    ensures { result ≡ refusal_number refusal }
-{
-    u64::from(u8::from(refusal))
-}
-
 // The next log's length is awaited, or a number was refused.
 fn waiting(number: u64) -> Feed
     ensures { result ≡ waiting_feed number }
@@ -91,7 +83,7 @@ fn take_length(words: &mut [u64; WORDS], item: &[u8]) -> Feed
 {
     let n = laws::u32_at(item, 0) as usize;
     if MOST_LOG_BYTES < n {
-        return Feed::Refused(number_of(Refusal::Outside));
+        return Feed::Refused(u64::from(Refusal::Outside));
     }
     if n == 0 {
         return take_log(words, &[]);
@@ -131,7 +123,7 @@ fn push(f: Feed, words: &mut [u64; WORDS], carry: &mut [u8], b: u8) -> Feed
         return f;
     };
     if is_full(part, have, words) {
-        return Feed::Refused(number_of(Refusal::Full));
+        return Feed::Refused(u64::from(Refusal::Full));
     }
     carry[have] = b;
     let next = have + 1;
@@ -166,6 +158,6 @@ pub fn end_number(f: Feed) -> u64
             part: Part::Length,
             have: 0,
         } => 0,
-        Feed::Reading { .. } => number_of(Refusal::Malformed),
+        Feed::Reading { .. } => u64::from(Refusal::Malformed),
     }
 }

@@ -78,7 +78,7 @@ fn may_protect(x: Record) -> bool
     ensures { result ≡ may_protect x }
 {
     let d = x.digest;
-    d.privilege_level().to_bits() != 0
+    d.privilege_level() != PrivilegeLevel::Any
 }
 
 // The exceptions that a record, after fix-ups, may raise. Neither vector is refused.

@@ -203,21 +203,21 @@ pub fn fix_fields(
 {
     let none = RegSpec { bank: 0, number: 0 };
     let second = RegSpec {
-        bank: bank,
+        bank,
         number: 0,
     };
     let specs = [spec, 0, 0, 0];
     let regs = [none, second, none, none];
     let x = Record {
-        opcode: opcode,
-        count: count,
-        specs: specs,
-        regs: regs,
-        size: size,
+        opcode,
+        count,
+        specs,
+        regs,
+        size,
         scale: 0,
         disp: 0,
         imm: 0,
-        prefixes: prefixes,
+        prefixes,
         mask: 0,
         digest: d,
         segment: 0,

@@ -10,6 +10,7 @@ ghost use Rattle.implicit.specs.Memory.{memory_form, memory_entry};
 
 use access::Access;
 use registers::RegSpec;
+use registers::names::AL;
 
 // An entry reads or writes.
 #[derive(Clone, Copy)]
@@ -107,14 +108,13 @@ fn entry_of(code: u16) -> Option<Entry>
         bank: (code / 16 % 16) as u8,
         number,
     };
-    let al = RegSpec { bank: 4, number: 0 };
     let entry = match code / 256 {
         1 => Entry::Operand(ImplicitOperand::Register(x), Way::Read),
         2 => Entry::Operand(ImplicitOperand::Register(x), Way::Write),
         3 => Entry::Operand(ImplicitOperand::MemDeref(x), Way::Read),
         4 => Entry::Operand(ImplicitOperand::MemDeref(x), Way::Write),
         5 => Entry::Operand(ImplicitOperand::Disp(x, MINUS_8), Way::Write),
-        6 => Entry::Operand(ImplicitOperand::MemBaseIndexScale(x, al, 1), Way::Read),
+        6 => Entry::Operand(ImplicitOperand::MemBaseIndexScale(x, AL, 1), Way::Read),
         7 => Entry::Slot(number, Way::Read),
         8 => Entry::Slot(number, Way::Write),
         _ => return None,

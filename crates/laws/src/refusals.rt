@@ -38,3 +38,11 @@ impl From<Refusal> for u8 {
         }
     }
 }
+
+impl From<Refusal> for u64 {
+    ghost from_gives = { λ r n. n ≡ refusal_number r };
+
+    fn from(refusal: Refusal) -> u64 {
+        u64::from(u8::from(refusal))
+    }
+}

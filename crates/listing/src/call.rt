@@ -48,9 +48,9 @@ fn put_fields(
     let regs = [RegSpec { bank: 0, number: 0 }; 4];
     let x = Record {
         opcode: 0,
-        count: count,
-        specs: specs,
-        regs: regs,
+        count,
+        specs,
+        regs,
         size: 0,
         scale: 0,
         disp: 0,

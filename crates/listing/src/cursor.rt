@@ -9,7 +9,7 @@ use access::Access;
 use definition::Item;
 use implicit::{Entry, ImplicitOperand, Way};
 use record::Record;
-use registers::RegSpec;
+use registers::names::RDI;
 
 impl AccessIter {
     pub fn new() -> AccessIter
@@ -44,7 +44,7 @@ fn flags_next(x: Record) -> Option<(Item, AccessIter)>
 {
     let digest = x.digest;
     let access = digest.flags_access();
-    if access.to_bits() == 0 {
+    if access == Access::None {
         return implicit_next(x, 0);
     }
     Some((
@@ -63,10 +63,7 @@ fn implicit_next(x: Record, i: u8) -> Option<(Item, AccessIter)>
 {
     match implicit::implicit_entry(x.digest.extra, i) {
         Some(Entry::Operand(o, way)) => implicit_found(o, way, i),
-        Some(Entry::Slot(_, way)) => {
-            let rdi = RegSpec { bank: 0, number: 7 };
-            implicit_found(ImplicitOperand::MemDeref(rdi), way, i)
-        }
+        Some(Entry::Slot(_, way)) => implicit_found(ImplicitOperand::MemDeref(RDI), way, i),
         None => explicit_next(x, 0),
     }
 }

@@ -11,7 +11,8 @@ use event::{put_memory, put_register};
 use implicit::Way;
 use registers::{RegSpec, Value};
 
-const LEA: u16 = 28;
+// Stays: an opcode is a number of document 01, a field of the record.
+pub const LEA: u16 = 28;
 
 // Under LEA a read part stops before the access; a write part does not.
 pub fn is_stopped(b: &[u8], way: Way) -> bool

@@ -51,6 +51,6 @@ pub fn close_words(reader: &mut [u64; 48]) -> u64
     *reader = [0; 48];
     match closed {
         Ok(()) => 0,
-        Err(refusal) => u64::from(u8::from(refusal)),
+        Err(refusal) => u64::from(refusal),
     }
 }

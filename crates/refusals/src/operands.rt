@@ -6,6 +6,7 @@ ghost use Rattle.definition.specs.Behaviors.{is_memory};
 ghost use Rattle.definition.specs.Refusals.{accessed, unnamed};
 ghost use Rattle.definition.specs.declared.Shape.{Shape};
 
+use access::Access;
 use record::Record;
 use registers::RegSpec;
 
@@ -15,7 +16,7 @@ fn is_accessed(x: Record, i: u8) -> bool
     ensures { result ≡ not (eqb (access_at x.digest i) 0) }
 {
     let digest = x.digest;
-    digest.operand_access(i).to_bits() != 0
+    digest.operand_access(i) != Access::None
 }
 
 // Nothing, or Reg4 with a number that the bank of `regs[3]` has not.

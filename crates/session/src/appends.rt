@@ -45,8 +45,8 @@ impl Session {
         let more = count_log(&log[used..end]);
         Session {
             used: end,
-            events: std::num::wrapping_add_u64(self.events, more.events),
-            unknown: std::num::wrapping_add_u64(self.unknown, more.unknown),
+            events: self.events.wrapping_add(more.events),
+            unknown: self.unknown.wrapping_add(more.unknown),
         }
     }
 
@@ -57,13 +57,13 @@ impl Session {
         let answer = visiting::visit_accesses(bytes, file, log, self.used);
         let Answer::Done(n) = answer else {
             return Appended {
-                answer: answer,
+                answer,
                 session: self,
             };
         };
         let after = self.further(n, log);
         Appended {
-            answer: answer,
+            answer,
             session: after,
         }
     }

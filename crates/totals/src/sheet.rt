@@ -1,6 +1,6 @@
 // A sheet's calls: its caller keeps its 99 words. Any words at all get an answer.
 ghost use Rattle.std.specs.Prelude.{◌≡◌, IfOk};
-ghost use Rattle.laws.specs.Refusals.{refusal_number, refused_by};
+ghost use Rattle.laws.specs.Refusals.{refused_by};
 ghost use Rattle.watching.specs.Verdicts.{variable};
 ghost use Rattle.totals.specs.Sheets.{variable_in, refusal_of, taken_by, add_of, fresh, new_of};
 
@@ -35,13 +35,6 @@ fn watched_by(words: &[u64; WORDS], log: &[u8]) -> Result<Watched, Refusal>
     Ok(watched)
 }
 
-// A refusal as a C caller takes it.
-fn number_of(refusal: Refusal) -> u64
-    ensures { result ≡ refusal_number refusal }
-{
-    u64::from(u8::from(refusal))
-}
-
 // A new sheet; refused, the words stay.
 // Stays: the C interface, machhurel_sheet_new answers this number.
 #[tactic(auto, unfolding(crate::specs::Sheets::new_of, crate::specs::Sheets::fresh))]
@@ -49,7 +42,7 @@ pub fn new_sheet(sheet: &mut [u64; WORDS], address: u64, length: u64) -> u64
     ensures { (result, sheet.new) ≡ new_of sheet.old address length }
 {
     if !is_length(length) {
-        return number_of(Refusal::Outside);
+        return u64::from(Refusal::Outside);
     }
     let mut words = [0u64; WORDS];
     words[ADDRESS] = address;
@@ -65,7 +58,7 @@ pub fn add_log(sheet: &mut [u64; WORDS], log: &[u8]) -> u64
 {
     let watched = match watched_by(sheet, log) {
         Ok(watched) => watched,
-        Err(refusal) => return number_of(refusal),
+        Err(refusal) => return u64::from(refusal),
     };
     raise(sheet, LOGS, 1);
     add_events(sheet, watched, log);

@@ -45,7 +45,7 @@ pub(crate) fn raise(words: &mut [u64; WORDS], i: usize, n: u64)
     ensures { words.new ≡ raised words.old i n }
 {
     if i < WORDS {
-        words[i] = std::num::wrapping_add_u64(words[i], n);
+        words[i] = words[i].wrapping_add(n);
     }
 }
 

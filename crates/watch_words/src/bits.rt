@@ -39,7 +39,7 @@ pub fn stepped_bits(stepped: Result<Stepped, Refusal>) -> u64
             let opcode = opcode_of(s.visit) as u64;
             visited * 0x100 + tally_bits(s.tally) * 0x1_0000 + opcode * 0x1_0000_0000_0000
         }
-        Err(refusal) => u64::from(u8::from(refusal)),
+        Err(refusal) => u64::from(refusal),
     }
 }
 
@@ -51,7 +51,7 @@ pub fn verdict_bits(address: u64, length: u64, log: &[u8], at: usize) -> u64
             let low = (u8::from(verdict) as u64) * 0x100 + (touched as u64) * 0x1_0000;
             low + ((next - at) as u64) * 0x1_0000_0000
         }
-        Naming::Unnamed(refusal) => u64::from(u8::from(refusal)),
+        Naming::Unnamed(refusal) => u64::from(refusal),
         Naming::Ended => 255,
     }
 }

@@ -82,7 +82,7 @@ pub fn new_watch(watch: &mut [u64; 10], address: u64, length: u64) -> u64
             *watch = words_of(fresh);
             0
         }
-        Err(refusal) => u64::from(u8::from(refusal)),
+        Err(refusal) => u64::from(refusal),
     }
 }
 

@@ -13,7 +13,7 @@ pub returns-then-is_full : goal.returns-then-is_full
 returns-then-is_full c =
     let x = c.args in
     let r = c.in-Reading in (
-      rw (c.number_of.ensures, r.is) (full r.part r.have x.words.now x.carry.now x.b (sym c.is_full.ensures ∙ c.if-is_full.true)),
+      rw (c.from.ensures, r.is) (full r.part r.have x.words.now x.carry.now x.b (sym c.is_full.ensures ∙ c.if-is_full.true)),
       record { room = c.requires.room; within = tt },
     )
 

@@ -8,7 +8,7 @@ use Rattle.totals.proofs.Adding.{refused, took, taken_steps}
 use Rattle.totals.proofs.sheet.add_log.Goals as goal
 
 pub returns-in-Err : goal.returns-in-Err
-returns-in-Err c = refused c.args.sheet.now c.args.log.now c.watched_by.ensures.number c.in-Err.is c.number_of.ensures
+returns-in-Err c = refused c.args.sheet.now c.args.log.now c.watched_by.ensures.number c.in-Err.is c.from.ensures
 
 pub returns : goal.returns
 returns c =
