@@ -13,7 +13,6 @@ use Rattle.laws.specs.Words.{number_at}
 use Rattle.std.proofs.lemmas.Bool.{and_parts}
 use Rattle.registers.specs.Files.{file_kind, based_kind, file_bytes, based_bytes, file_values, file_length, file_of, is_file, FileLong, file_answer}
 use Rattle.registers.specs.Told.{file_refusal}
-use Rattle.registers.specs.declared.RegisterFile.{RegisterFile}
 use Rattle.laws.specs.Refusals.{answered_by, refused_by, refusal_number}
 use Rattle.laws.specs.declared.refusals.Refusal.{Refusal}
 use Rattle.laws.specs.declared.refusals.Refusal.TheVariants.{BadFile}

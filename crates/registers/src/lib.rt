@@ -132,6 +132,7 @@ impl RegisterFile {
         Ok(RegisterFile::parse(b))
     }
 
+    #[tactic(auto, unfolding(crate::specs::Files::file_of, crate::specs::Files::numbers_from))]
     pub fn parse(b: &[u8]) -> RegisterFile
         requires { (file_bytes ≤ length b.now) × FileLong b.now }
         ensures { result ≡ file_of b.now }
