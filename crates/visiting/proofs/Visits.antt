@@ -14,8 +14,8 @@ use Rattle.registers.specs.declared.RegisterFile.{RegisterFile}
 use Rattle.record.specs.Halves.{plain_record, completed_record}
 use Rattle.record.specs.Records.{RecordLong, record_of, record_refusal}
 use Rattle.record.specs.declared.Record.{Record}
-use Rattle.definition.specs.Limits.{most_bytes}
 use Rattle.record.proofs.Laws.{record_long, passed, halves}
+use Rattle.definition.specs.Limits.{most_bytes}
 use Rattle.definition.specs.Behaviors.{fixed_up, complex}
 use Rattle.definition.specs.Logs.{event_bytes, bytes_of}
 use Rattle.definition.specs.Refusals.{nameless, sizeless}
