@@ -19,6 +19,7 @@ use registers::RegisterFile;
 pub const MOST_BYTES: usize = 201;
 
 // Refusals 4, 5 and 6 of a record after fix-ups, in their order.
+#[tactic(auto, unfolding(crate::specs::Records::first_refusal, laws::specs::Tests::first_of))]
 fn refusal_of(x: Record) -> u8
     ensures { result ≡ first_refusal (complex x) (nameless x) (sizeless x) false }
 {
