@@ -19,6 +19,7 @@ pub struct Blocked {
 }
 
 // Each record under the one file. The place is where the next log goes.
+// Stays: file, log, start and answers one by one, as the C call lends them.
 fn visit_each(
     list: RecordList<'_>,
     file: &[u8],

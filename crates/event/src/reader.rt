@@ -8,6 +8,7 @@ use laws::Refusal;
 use registers::RegSpec;
 
 // The event at a place and the place after it, a refusal, or the end: at or past the end of the log.
+// Stays: a log and a place: any place has an answer, and machhurel_event asks at one.
 #[tactic(auto, using(crate::proofs::Fronts::finished))]
 pub fn read_event(log: &[u8], at: usize) -> Reading
     ensures { result ≡ read_at log.now at }

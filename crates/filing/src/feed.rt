@@ -14,6 +14,7 @@ const HEADER_BYTES: usize = 9;
 const LENGTH_BYTES: usize = 4;
 
 // What is under way: an address and a watched length, a log's length, or a log of so many bytes.
+// Stays: it names the part, and is neither an Option nor a Result.
 #[derive(Clone, Copy)]
 pub enum Part {
     Header,
@@ -56,6 +57,7 @@ fn number_of(refusal: Refusal) -> u64
 }
 
 // The next log's length is awaited, or a number was refused.
+// Stays: the number is what totals::new_sheet and add_log answer, as their C calls do; 0 is no refusal.
 fn waiting(number: u64) -> Feed
     ensures { result ≡ waiting_feed number }
 {

@@ -36,6 +36,7 @@ impl Tally {
     }
 }
 
+// Stays: the runtime and the list go along as two; neither is a part of the other.
 pub(crate) fn replay_all(
     rt: &impl Print,
     list: &[u8],
