@@ -50,14 +50,14 @@ unfolding add_of
 stays w l {n} e h = rw (← e, ne_eqb n 0 h)
 
 -- the two outcomes, by what the tests came to
-module _ (w l : List ℕ) {c : Result Unit Refusal} (is : refused_by c ≡ refusal_of w l) where
+module _ {A : Type 0} (w l : List ℕ) {c : Result A Refusal} (is : refused_by c ≡ refusal_of w l) where
   pub refused : {r : Refusal} {n : ℕ} → c ≡ Err r → n ≡ refusal_number r → (n, w) ≡ add_of w l
   refused {r} e m = stays w l (m ∙ rw e at is) (rw m (numbered r))
 
-  pub no_refusal : {x : Unit} → c ≡ Ok x → refusal_of w l ≡ 0
+  pub no_refusal : {x : A} → c ≡ Ok x → refusal_of w l ≡ 0
   no_refusal e = sym (rw e at is)
 
-  pub took : {x : Unit} {u : List ℕ} → c ≡ Ok x → u ≡ taken_by w l → (0, u) ≡ add_of w l
+  pub took : {x : A} {u : List ℕ} → c ≡ Ok x → u ≡ taken_by w l → (0, u) ≡ add_of w l
   unfolding add_of
   took e q = let k = no_refusal e in rw (k, q)
 

@@ -3,12 +3,11 @@ ghost use Rattle.std.specs.Prelude.{◌≡◌, true, [], ◌∷◌};
 ghost use Rattle.laws.specs.Lists.{each};
 ghost use Rattle.definition.specs.Readings.{is_event};
 ghost use Rattle.event.specs.Wholes.{whole_of, events_in};
-ghost use Rattle.watching.specs.Verdicts.{is_length};
 ghost use Rattle.totals.specs.Sheets.{parts, size_word, additions, raised, raised_by};
 
 use definition::{Event, Reading};
 use event::read_event;
-use watching::{Variable, Verdict, verdict_on};
+use watching::{Verdict, Watched};
 
 // How many words a sheet has, and their places. Bank b's reads stand at READS + b, its writes at WRITES + b, memory events of n bytes at
 // SIZES + n.
@@ -66,16 +65,16 @@ fn add_memory(words: &mut [u64; WORDS], bytes: usize, n: u8)
 }
 
 #[tactic(auto, unfolding(crate::specs::Sheets::additions, crate::specs::Sheets::raised_by, watching::specs::Verdicts::verdict_of))]
-fn add_event(words: &mut [u64; WORDS], v: Variable, e: Event)
-    requires { (is_length v.length ≡ true) × (is_event e ≡ true) }
-    ensures { words.new ≡ raised_by words.old (additions v e) }
+fn add_event(words: &mut [u64; WORDS], v: Watched, e: Event)
+    requires { is_event e ≡ true }
+    ensures { words.new ≡ raised_by words.old (additions v.variable e) }
 {
     match e {
         Event::RegisterRead(y) => raise(words, READS + y.bank as usize, 1),
         Event::RegisterWrite(y) => raise(words, WRITES + y.bank as usize, 1),
         Event::MemoryRead(_, n) => add_memory(words, IN, n),
         Event::MemoryWrite(_, n) => {
-            let part = parts(verdict_on(v, e));
+            let part = parts(v.verdict_on(e));
             add_memory(words, OUT, n);
             raise(words, KNOWN, 1);
             raise(words, PART, part)
@@ -87,9 +86,8 @@ fn add_event(words: &mut [u64; WORDS], v: Variable, e: Event)
 
 // Every event of a log, as far as it reads.
 // Stays: document 01's form, a walk by let .. else; a fold asks that its step may be called at any event, and add_event asks is_event.
-pub(crate) fn add_events(words: &mut [u64; WORDS], v: Variable, log: &[u8])
-    requires { is_length v.length ≡ true }
-    ensures { words.new ≡ raised_by words.old (each (additions v) (events_in (whole_of log.now))) }
+pub(crate) fn add_events(words: &mut [u64; WORDS], v: Watched, log: &[u8])
+    ensures { words.new ≡ raised_by words.old (each (additions v.variable) (events_in (whole_of log.now))) }
 {
     let mut at = 0;
     loop {

@@ -13,10 +13,10 @@ unfolding raised_by
 returns-in_default c =
     let l = c.loop-e in
     let x = c.args in
-    ap (raised_by l.words) (ends x.v x.log.now l.at c.read_event.result c.read_event.ensures c.in_default.not-Found) ∙ sym l.invariant.raised
+    ap (raised_by l.words) (ends x.v.variable x.log.now l.at c.read_event.result c.read_event.ensures c.in_default.not-Found) ∙ sym l.invariant.raised
 
 pub add_event-requires : goal.add_event-requires
-add_event-requires c = (c.requires, read_good c.args.log.now c.loop-e.at (sym c.read_event.ensures ∙ c.in-Found.is))
+add_event-requires c = read_good c.args.log.now c.loop-e.at (sym c.read_event.ensures ∙ c.in-Found.is)
 
 pub loop-e-smaller : goal.loop-e-smaller
 loop-e-smaller c = let m = further c.args.log.now c.loop-e.at c.read_event.ensures c.in-Found.is in omega arith
@@ -27,5 +27,5 @@ loop-e-preserved c =
     let x = c.args in
     record {
       inside = (further x.log.now l.at c.read_event.ensures c.in-Found.is).1;
-      raised = l.invariant.raised ∙ goes x.v x.log.now l.at l.words c.add_event.new.words (sym c.read_event.ensures ∙ c.in-Found.is) c.add_event.ensures;
+      raised = l.invariant.raised ∙ goes x.v.variable x.log.now l.at l.words c.add_event.new.words (sym c.read_event.ensures ∙ c.in-Found.is) c.add_event.ensures;
     }

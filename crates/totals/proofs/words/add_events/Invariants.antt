@@ -8,7 +8,7 @@ abbrev pub invariant-loop-e : goal.invariant-loop-e
 invariant-loop-e l =
     record {
       inside : l.at ≤ length l.log;
-      raised : raised_by l.initial.words (rest l.v l.log 0) ≡ raised_by l.words (rest l.v l.log l.at);
+      raised : raised_by l.initial.words (rest l.v.variable l.log 0) ≡ raised_by l.words (rest l.v.variable l.log l.at);
     }
 
 abbrev pub decreases-loop-e : goal.decreases-loop-e
