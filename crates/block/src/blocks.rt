@@ -12,6 +12,7 @@ use visiting::visit_accesses;
 
 // What a block answers: how many records stand before the first that is refused 7, which are all where none is; and how many bytes of
 // log were written.
+// Stays: how many bytes were written is what the C call answers.
 #[derive(Clone, Copy)]
 pub struct Blocked {
     pub count: usize,

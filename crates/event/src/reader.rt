@@ -89,6 +89,7 @@ fn register_at(log: &[u8]) -> RegSpec
     }
 }
 
+// Stays: no switch on steps but a match on the cases of an enum, each with what it holds.
 #[tactic(auto, unfolding(definition::specs::Readings::is_event))]
 fn is_event(e: Event) -> bool
     ensures { result ≡ is_event e }

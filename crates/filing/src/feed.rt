@@ -105,6 +105,7 @@ fn take_length(words: &mut [u64; WORDS], item: &[u8]) -> Feed
 }
 
 // A part that is whole.
+// Stays: no switch on steps but a match on the cases of an enum, each with what it holds.
 #[tactic(auto, unfolding(crate::specs::Feeds::completed))]
 fn complete(part: Part, words: &mut [u64; WORDS], item: &[u8]) -> Feed
     requires { length item.now ≡ part_size part }

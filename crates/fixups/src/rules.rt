@@ -77,6 +77,7 @@ fn by_width(x: Record, first: u16) -> BehaviorDigest
     }
 }
 
+// Stays: an arm for each count of operands, as document 01 lists them.
 #[tactic(auto, unfolding(definition::specs::Behaviors::fix_up, definition::specs::Behaviors::imul_fix))]
 fn fix_imul(x: Record) -> BehaviorDigest
     ensures { result ≡ fix_up imul x x.digest }

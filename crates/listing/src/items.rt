@@ -24,6 +24,7 @@ const MEM_BASE_INDEX_SCALE: u8 = 0x45;
 
 const EXPLICIT: u8 = 0x46;
 
+// Stays: no switch on steps but a match on the cases of an enum, each with what it holds.
 pub fn put_item(out: &mut [u8], item: Item) -> usize
     requires { size item_bytes (item ∷ []) ≤ length out.old }
     ensures { Logged item_bytes (item ∷ []) out.old out.new result }
@@ -65,6 +66,7 @@ fn put_implicit(out: &mut [u8], o: ImplicitOperand, a: Access) -> usize
     n + 1
 }
 
+// Stays: no switch on steps but a match on the cases of an enum, four forms with what each holds.
 fn put_operand(out: &mut [u8], o: ImplicitOperand) -> usize
     requires { size operand_bytes (o ∷ []) ≤ length out.old }
     ensures { Logged operand_bytes (o ∷ []) out.old out.new result }

@@ -20,6 +20,7 @@ pub(crate) fn is_same(head: Head, subject: &[u8], file: &[u8], written: &[u8]) -
     answer(head.call, subject, file, lent, start) == head.answer && is_left(&buffer, start, written)
 }
 
+// Stays: no switch on steps but a match on the cases of an enum; the calls differ in what they take.
 fn answer(call: Option<Call>, subject: &[u8], file: &[u8], lent: &mut [u8], start: usize) -> u64 {
     match call {
         Some(Call::Visit) => machhurel::machhurel_visit(subject, file, lent, start),
