@@ -6,6 +6,7 @@ use crate::Access;
 
 impl Access {
     // The two low bits decide, and the others count for nothing.
+    // Stays: no From, here and for levels: the name says that two bits are taken of any number. docs/DIFFERENCES.md names it (R9).
     pub fn from_bits(bits: u8) -> Access
         ensures { result ≡ access_of (bits % 4) }
     {

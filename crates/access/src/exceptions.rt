@@ -69,6 +69,7 @@ impl From<Exception> for u8 {
 }
 
 // A set with bit k set to b: a bit is taken off and then added, so that nothing carries.
+// Stays: k < 32 is a fact about one number; a type that holds it would be built at each call.
 pub fn with_bit(set: u32, k: u8, b: bool) -> u32
     requires { k < 32 }
     ensures { result ≡ with_bit set k b }

@@ -26,6 +26,7 @@ pub enum PrivilegeLevel {
 }
 
 // An exception vector, as the processor numbers them.
+// Stays: any byte is a vector, and `may_of` and `set_of` answer for one that has no name here; an enum would leave those out.
 #[derive(Clone, Copy, PartialEq, Eq)]
 pub struct Exception {
     pub vector: u8,

@@ -6,6 +6,7 @@ use crate::PrivilegeLevel;
 
 impl PrivilegeLevel {
     // The two low bits decide, and the others count for nothing.
+    // Stays: a twin of Access's: each match names the cases of its own enum, and a trait over both would have both bodies.
     pub fn from_bits(bits: u8) -> PrivilegeLevel
         ensures { result ≡ level_of (bits % 4) }
     {

@@ -24,6 +24,7 @@ pub struct Sources {
 const MINUS_8: u64 = 0xFFFF_FFFF_FFFF_FFF8;
 
 // Where the memory of an implicit list lies: unknown for one that has none.
+// Stays: lists, and segments below, are numbers of document 01, as the record's bytes have them; the arms read like its table.
 #[tactic(auto, using(crate::proofs::NoPlace::no_place))]
 fn implied_place(f: RegisterFile, list: u16) -> Value
     ensures { result ≡ implied_place f list }

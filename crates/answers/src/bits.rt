@@ -1,4 +1,5 @@
 // The parts of an answer, each at its bit.
+// Stays: no From: neither u64 nor an answer is a type of this crate. One function for all would take the bits as a closure, no plainer.
 ghost use Rattle.std.specs.Prelude.{◌≡◌, ◌^◌, ◌<◌};
 ghost use Rattle.definition.specs.Visits.{count_of};
 ghost use Rattle.answers.specs.Answers.{answer_bits, digest_bits, privilege_bits, exception_bits, difference_bits};

@@ -1,4 +1,5 @@
 // What a log has at a place, as a number.
+// Stays: a log and a place, as the C call has them; no From, since the number says how far behind that place the next event stands.
 ghost use Rattle.std.specs.Prelude.{◌≡◌};
 ghost use Rattle.definition.specs.Readings.{read_at};
 ghost use Rattle.answers.specs.Answers.{event_bits};

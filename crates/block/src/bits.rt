@@ -6,6 +6,7 @@ ghost use Rattle.block.specs.Bits.{block_bits, in_bits};
 use crate::blocks::{Blocked, visit_block};
 use laws::Refusal;
 
+// Stays: no From, which has no `requires`: both counts must lie in their bits.
 fn block_bits(a: Result<Blocked, Refusal>) -> u64
     requires { (block_count a < 2 ^ 16) × (block_written a < 2 ^ 32) }
     ensures { result ≡ block_bits a }
@@ -16,6 +17,7 @@ fn block_bits(a: Result<Blocked, Refusal>) -> u64
     }
 }
 
+// Stays: its arguments are those of the C call, one by one.
 pub fn answer_block(
     records: &[u8],
     each: usize,

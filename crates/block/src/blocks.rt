@@ -12,6 +12,7 @@ use visiting::visit_accesses;
 
 // What a block answers: how many records stand before the first that is refused 7, which are all where none is; and how many bytes of
 // log were written.
+// Stays: how many bytes were written is what the C call answers.
 #[derive(Clone, Copy)]
 pub struct Blocked {
     pub count: usize,
@@ -19,6 +20,7 @@ pub struct Blocked {
 }
 
 // Each record under the one file. The place is where the next log goes.
+// Stays: file, log, start and answers one by one, as the C call lends them.
 fn visit_each(
     list: RecordList<'_>,
     file: &[u8],

@@ -7,6 +7,7 @@ use laws::Refusal;
 use registers::RegSpec;
 
 // What a spec stands for: a register by its place in `regs`, masked or not; Reg4; an immediate; or memory by its parts.
+// Stays: document 01's table has Nothing, spec 0, among its forms; an Option of the others would have them two deep.
 #[derive(Clone, Copy)]
 pub enum Shape {
     Nothing,
@@ -18,6 +19,7 @@ pub enum Shape {
 
 // The base of a memory spec: none, `regs[1]`, or a register that the spec names, as a place or as the destination of a string
 // instruction, to which no segment applies.
+// Stays: three forms beside none; an Option of them would have them two deep, and is no plainer.
 #[derive(Clone, Copy)]
 pub enum Base {
     NoBase,
@@ -36,6 +38,7 @@ pub enum Displacement {
 }
 
 // A register that enters an address: as it is, or times a scale.
+// Stays: two forms beside none; an Option of them would have them two deep, and is no plainer.
 #[derive(Clone, Copy)]
 pub enum Term {
     Absent,
@@ -44,6 +47,7 @@ pub enum Term {
 }
 
 // An address before any register is asked for its value, and whether the sum is cut to its low 32 bits.
+// Stays: `cut` is a part of the address, and says nothing of whether there is one.
 #[derive(Clone, Copy)]
 pub struct Address {
     pub base: Term,

@@ -62,6 +62,7 @@ fn refused(refusal: Refusal, second: &[u8]) -> Parted
     }
 }
 
+// Stays: a log and a place in it, as the walk along both has them.
 fn goes_on(log: &[u8], at: usize) -> bool
     ensures { result ≡ ltb at (length log.now) }
 {

@@ -60,6 +60,7 @@ impl BehaviorDigest {
     }
 
     // An operand above 3 is refused.
+    // Stays: any number of an operand, and of a list below, has an answer: `operand_answer` and `list_answer` refuse the others.
     #[tactic(auto, using(crate::proofs::Laws::lowest, crate::proofs::Laws::highest, crate::proofs::Laws::operand_refused), unfolding(crate::specs::Digests::operand_answer, crate::specs::Digests::with_access))]
     pub fn set_operand(mut self, operand: u8, access: Access) -> Result<BehaviorDigest, Refusal>
         ensures { result ≡ operand_answer operand (access_number access) self }
@@ -105,6 +106,7 @@ impl BehaviorDigest {
         self.extra
     }
 
+    // Stays: document 01's setters, one a field, by value with `mut self`; one for both would take the bit's place as two numbers.
     #[tactic(auto, unfolding(crate::specs::Digests::with_behavior))]
     pub fn set_nontrivial(mut self, state: bool) -> BehaviorDigest
         ensures { result ≡ with_nontrivial state self }

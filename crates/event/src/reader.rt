@@ -8,6 +8,7 @@ use laws::Refusal;
 use registers::RegSpec;
 
 // The event at a place and the place after it, a refusal, or the end: at or past the end of the log.
+// Stays: a log and a place: any place has an answer, and machhurel_event asks at one.
 #[tactic(auto, using(crate::proofs::Fronts::finished))]
 pub fn read_event(log: &[u8], at: usize) -> Reading
     ensures { result ≡ read_at log.now at }
@@ -88,6 +89,7 @@ fn register_at(log: &[u8]) -> RegSpec
     }
 }
 
+// Stays: no switch on steps but a match on the cases of an enum, each with what it holds.
 #[tactic(auto, unfolding(definition::specs::Readings::is_event))]
 fn is_event(e: Event) -> bool
     ensures { result ≡ is_event e }

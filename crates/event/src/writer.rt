@@ -1,4 +1,5 @@
 // Writers of one event each, at the front of the part of a log that is lent to them; each answers how many bytes it wrote.
+// Stays: document 01's form, each writer is lent the part of the log behind what was written so far, with room for its own events.
 ghost use Rattle.std.specs.Prelude.{◌≡◌, ◌∷◌, [], ◌≤◌, ◌<◌, length};
 ghost use Rattle.laws.specs.Lending.{size, Logged};
 ghost use Rattle.definition.specs.Logs.{event_bytes, memory_event};
@@ -8,6 +9,7 @@ use implicit::Way;
 use registers::{RegSpec, Value};
 
 // The kind of a write stands behind that of the read.
+// Stays: a kind is a byte of the log.
 fn kind_of(way: Way, read: u8) -> u8
     requires { read < 255 }
     ensures { result ≡ kind_of way read }

@@ -10,6 +10,7 @@ use digest::BehaviorDigest;
 
 // The digest of an opcode as the number that its four bytes are: the list, the accesses of the operands, the behavior. 0 where the
 // opcode has none.
+// Stays: opcodes are numbers of document 01, most of them without a name here; a table in code is a match (docs/DECISIONS.md).
 #[tactic(auto, unfolding(crate::specs::Codes::code_at, crate::specs::Rows::everyday_digest))]
 fn code_of(opcode: u16) -> u32
     ensures { result ≡ code_at opcode }

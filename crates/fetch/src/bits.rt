@@ -1,4 +1,5 @@
 // What the judge and the proposer say, as the bits of an answer.
+// Stays: the arguments and the bits of two C calls; no From, since neither u64 nor an answer is a type of this crate.
 ghost use Rattle.std.specs.Prelude.{◌≡◌};
 ghost use Rattle.fetching.specs.Judging.{judge_call, propose_call};
 ghost use Rattle.fetch.specs.Answers.{judgement_bits, proposal_bits};

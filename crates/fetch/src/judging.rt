@@ -53,6 +53,7 @@ fn propose_records(list: RecordList<'_>) -> u32
     set
 }
 
+// Stays: bytes and each, as the C calls have them; inside, the two are a RecordList.
 pub fn judge(bytes: &[u8], each: usize, set: u32) -> Result<Judgement, Refusal>
     ensures { result ≡ judge_call bytes.now each set }
 {

@@ -48,6 +48,7 @@ fn segment_of(x: Record, spec: u8) -> u8
     if takes_base(spec) { x.segment } else { 0 }
 }
 
+// Stays: set, record and spec one by one: the record is a type of another crate, and a struct of them would be made at each call.
 fn with_access(set: u32, x: Record, spec: u8) -> u32
     ensures { result ≡ joined set (shape_needs x (shape_of spec)) }
 {

@@ -12,6 +12,7 @@ use definition::Term;
 use registers::RegSpec;
 use registers::names::{FS, GS};
 
+// Stays: slots are the bits of a set, numbers of the C interface (machhurel_fetch_judge).
 const GENERAL: u8 = 16;
 
 const RIP: u8 = 16;
@@ -51,6 +52,7 @@ fn base_slot(number: u8) -> Option<u8>
 }
 
 // The slot of a register in a file; none for one that is in no file.
+// Stays: no twin of the one in `registers`, which answers a slot for any register, without a jump; here there may be none.
 fn slot_of(y: RegSpec) -> Option<u8>
     ensures { result ≡ held_slot (part_of y).slot }
 {
@@ -84,6 +86,7 @@ pub(crate) fn with_term(set: u32, t: Term) -> u32
 }
 
 // The base of a segment; none is asked for its register.
+// Stays: a segment is a number of document 01, 0 for none, as the record's byte has it.
 pub(crate) fn with_segment(set: u32, segment: u8) -> u32
     ensures { result ≡ joined set (each slots_of (segment_registers segment)) }
 {

@@ -13,6 +13,7 @@ const HEADER_BYTES: usize = 9;
 const LENGTH_BYTES: usize = 4;
 
 // What is under way: an address and a watched length, a log's length, or a log of so many bytes.
+// Stays: it names the part, and is neither an Option nor a Result.
 #[derive(Clone, Copy)]
 pub enum Part {
     Header,
@@ -48,6 +49,7 @@ fn size_of(part: Part) -> usize
 }
 
 // The next log's length is awaited, or a number was refused.
+// Stays: the number is what totals::new_sheet and add_log answer, as their C calls do; 0 is no refusal.
 fn waiting(number: u64) -> Feed
     ensures { result ≡ waiting_feed number }
 {
@@ -95,6 +97,7 @@ fn take_length(words: &mut [u64; WORDS], item: &[u8]) -> Feed
 }
 
 // A part that is whole.
+// Stays: no switch on steps but a match on the cases of an enum, each with what it holds.
 #[tactic(auto, unfolding(crate::specs::Feeds::completed))]
 fn complete(part: Part, words: &mut [u64; WORDS], item: &[u8]) -> Feed
     requires { length item.now ≡ part_size part }

@@ -35,6 +35,7 @@ pub fn digest_of(x: Record) -> BehaviorDigest
 }
 
 // The record with its digest after fix-ups. The test stands here too: most records need no fix-up, and no call.
+// Stays: the test and the call of digest_of once more: through it a record by value would go through memory (docs/DECISIONS.md).
 #[tactic(auto, using(crate::proofs::Narrow::with_fixups, crate::proofs::Narrow::without_fixups), unfolding(definition::specs::Behaviors::fixed_up))]
 pub fn fixed_up(mut x: Record) -> Record
     ensures { result ≡ fixed_up x }

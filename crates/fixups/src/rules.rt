@@ -12,6 +12,7 @@ use record::Record;
 use registers::RegSpec;
 
 // The spec `RegMMM`, whose register is `regs[1]`.
+// Stays: specs, and lists below, are numbers of document 01, as a record and a digest hold them.
 pub const REG_MMM: u8 = 2;
 
 // The first of four lists, for the widths 1, 2, 4 and 8.
@@ -22,6 +23,7 @@ const DIV_LISTS: u16 = 5;
 const CMPXCHG_LISTS: u16 = 9;
 
 // The setters of a digest, where they do not refuse.
+// Stays: two setters and two promises: what a list and an operand must be differs, as do the values that are set.
 #[tactic(auto, using(digest::proofs::Laws::list_taken))]
 fn with_list(d: BehaviorDigest, list: u16) -> BehaviorDigest
     requires { list ≤ 28 }
@@ -60,6 +62,7 @@ fn operand_width(x: Record) -> u8
     }
 }
 
+// Stays: four arms for four widths, as document 01 lists them.
 #[tactic(auto, unfolding(definition::specs::Behaviors::by_width))]
 fn by_width(x: Record, first: u16) -> BehaviorDigest
     requires { first ≤ 9 }
@@ -74,6 +77,7 @@ fn by_width(x: Record, first: u16) -> BehaviorDigest
     }
 }
 
+// Stays: an arm for each count of operands, as document 01 lists them.
 #[tactic(auto, unfolding(definition::specs::Behaviors::fix_up, definition::specs::Behaviors::imul_fix))]
 fn fix_imul(x: Record) -> BehaviorDigest
     ensures { result ≡ fix_up imul x x.digest }
@@ -189,6 +193,7 @@ pub fn fix_up(x: Record) -> BehaviorDigest
 }
 
 // The same by the fields that the rules look at: a record by value would go through memory at the call.
+// Stays: the fields one by one, and zeros for the others (docs/DECISIONS.md).
 #[tactic(auto, unfolding(crate::specs::Fields::fields_of))]
 pub fn fix_fields(
     opcode: u16,

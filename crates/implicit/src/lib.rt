@@ -49,10 +49,12 @@ pub enum Entry {
 const MINUS_8: u32 = 0xFFFF_FFF8;
 
 // A bit for each list that has a memory form: 15, 16 and 24 to 28.
+// Stays: a list is a number of document 01, as a digest holds it, and any number has an answer.
 const MEMORY_LISTS: u32 = 0x1F01_8000;
 
 // A list as four codes of four hexadecimal digits, its first entry's the lowest, 0 past its last. The compiler makes one table of
 // constants of this match; an array it would lay out anew at each call.
+// Stays: a table in code is a match (docs/DECISIONS.md).
 fn row_of(list: u16) -> u64
     ensures { result ≡ row_of list }
 {
@@ -99,6 +101,7 @@ fn row_of(list: u16) -> u64
 }
 
 // The hexadecimal digits of a code are 0, a form, a bank and a number.
+// Stays: no TryFrom: codes are known in this file alone, and what is none is no error but the end of a list.
 #[tactic(auto, unfolding(crate::specs::Codes::entry_of))]
 fn entry_of(code: u16) -> Option<Entry>
     ensures { result ≡ entry_of code }

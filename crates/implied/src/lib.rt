@@ -19,6 +19,7 @@ use registers::names::{
 use registers::{RegSpec, Value};
 
 // The registers, one after the other. Inlined, the loop is gone where the registers are named at the call.
+// Stays: document 01's form, each writer is lent the part of the log behind what was written so far, with room for its own events.
 #[inline(always)]
 fn put_each(log: &mut [u8], way: Way, registers: &[RegSpec]) -> usize
     requires { size event_bytes (moved way registers.now) ≤ length log.old }
@@ -61,6 +62,7 @@ fn put_stack(log: &mut [u8], way: Way, at: Value, bytes: u8) -> usize
 }
 
 // A string slot logs the register of its spec and no memory.
+// Stays: a slot is the number of an operand, and a spec a number of document 01.
 #[tactic(auto, unfolding(crate::specs::Implied::slot_events, definition::specs::Steps::slot_registers, definition::specs::Steps::shape_base, definition::specs::Tables::shape_of, definition::specs::Addresses::base_of, definition::specs::Addresses::term_registers, laws::specs::Tests::is_in, laws::specs::Tests::any, laws::specs::Lists::flat, event::specs::Moves::moved))]
 fn put_slot(log: &mut [u8], x: Record, slot: u8) -> usize
     requires { size event_bytes (slot_events x slot) ≤ length log.old }

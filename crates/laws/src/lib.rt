@@ -75,6 +75,7 @@ pub fn lacks_room(n: usize, start: usize, end: usize) -> bool
 }
 
 // Whether bit k of a number is set.
+// Stays: k < 32 is a fact about one number, here, in `access` and in `sets`; a type that holds it would be built at each call.
 #[tactic(auto, unfolding(crate::specs::Words::bit))]
 pub fn is_set(v: u32, k: u8) -> bool
     requires { k < 32 }

@@ -31,6 +31,7 @@ fn put_items(out: &mut [u8], x: Record) -> usize
 }
 
 // The same by the fields that a listing looks at: a record by value would go through memory at the call.
+// Stays: the fields one by one, and zeros for the others (docs/DECISIONS.md).
 #[tactic(auto, unfolding(crate::specs::Fields::listed_of))]
 fn put_fields(
     out: &mut [u8],
@@ -111,6 +112,7 @@ fn list_record(x: Record, out: &mut [u8], start: usize) -> Answer
 
 // Lists a record: the items go to the buffer from the start on. Any bytes, any start and any buffer have an answer; a refused call
 // changes no byte.
+// Stays: a buffer and a start, as the C call has them.
 pub fn list_operands(b: &[u8], out: &mut [u8], start: usize) -> Answer
     ensures { (result, out.new) ≡ listing_call b.now out.old start }
 {

@@ -57,6 +57,7 @@ fn flags_next(x: Record) -> Option<(Item, AccessIter)>
 }
 
 // Entry i of the implicit list, or past its end the first explicit operand. A string slot lists as memory at rdi, whatever its own register.
+// Stays: no switch on steps but a match on the cases of an enum, each with what it holds.
 #[tactic(auto, using(crate::proofs::Walking::entry_below, crate::proofs::Walking::entry_over))]
 fn implicit_next(x: Record, i: u8) -> Option<(Item, AccessIter)>
     ensures { result ≡ implicit_next x i }

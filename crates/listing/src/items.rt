@@ -1,4 +1,5 @@
 // Writers of one item each, at the front of the part of a buffer that is lent to them; each answers how many bytes it wrote.
+// Stays: document 01's form, each writer is lent the part of the buffer behind what was written so far, with room for its own item.
 ghost use Rattle.std.specs.Prelude.{◌≡◌, ◌∷◌, [], ◌++◌, ◌≤◌, length, drop};
 ghost use Rattle.laws.specs.Lending.{size, Logged};
 ghost use Rattle.definition.specs.Listings.{operand_bytes, item_bytes};
@@ -23,6 +24,7 @@ const MEM_BASE_INDEX_SCALE: u8 = 0x45;
 
 const EXPLICIT: u8 = 0x46;
 
+// Stays: no switch on steps but a match on the cases of an enum, each with what it holds.
 pub fn put_item(out: &mut [u8], item: Item) -> usize
     requires { size item_bytes (item ∷ []) ≤ length out.old }
     ensures { Logged item_bytes (item ∷ []) out.old out.new result }
@@ -64,6 +66,7 @@ fn put_implicit(out: &mut [u8], o: ImplicitOperand, a: Access) -> usize
     n + 1
 }
 
+// Stays: no switch on steps but a match on the cases of an enum, four forms with what each holds.
 fn put_operand(out: &mut [u8], o: ImplicitOperand) -> usize
     requires { size operand_bytes (o ∷ []) ≤ length out.old }
     ensures { Logged operand_bytes (o ∷ []) out.old out.new result }
@@ -77,6 +80,7 @@ fn put_operand(out: &mut [u8], o: ImplicitOperand) -> usize
 }
 
 // A register, or memory at a register: the kind tells them apart.
+// Stays: the kind is the byte that is written, one of the two above.
 fn put_register(out: &mut [u8], kind: u8, y: RegSpec) -> usize
     requires { 3 ≤ length out.old }
     ensures { (result ≡ 3) × (out.new ≡ (kind ∷ y.bank ∷ y.number ∷ []) ++ drop 3 out.old) }

@@ -1,5 +1,6 @@
 // The static library that C links: each call of crate machhurel under the same name and clauses, by C's calling
 // convention.
+// Stays: the C interface: a function for each call of machhurel, since a crate exports its own functions alone (docs/DECISIONS.md).
 #![tactic(auto)]
 
 mod blocks; // blocks.rt: the call on a block of records

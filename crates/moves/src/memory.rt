@@ -1,4 +1,5 @@
 // Memory that an explicit operand touches: the registers of the address, the mask, then the access.
+// Stays: document 01's form, each writer is lent the part of the log behind what was written so far, with room for its own events.
 ghost use Rattle.std.specs.Prelude.{◌≡◌, ◌≤◌, length};
 ghost use Rattle.record.specs.Records.{everyday_bytes, record_of};
 ghost use Rattle.laws.specs.Lending.{size, Logged};

@@ -1,4 +1,5 @@
 // Registers that an explicit operand reads or writes.
+// Stays: document 01's form, each writer is lent the part of the log behind what was written so far, with room for its own events.
 ghost use Rattle.std.specs.Prelude.{◌≡◌, ◌≤◌, length};
 ghost use Rattle.laws.specs.Lending.{size, Logged};
 ghost use Rattle.implicit.specs.declared.Way.TheVariants.{Read, Write};

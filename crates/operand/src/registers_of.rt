@@ -34,6 +34,7 @@ pub fn apply_x86_zext(y: RegSpec) -> RegSpec
 }
 
 // The base of fs for segment 1, else that of gs.
+// Stays: a segment is a number of document 01, and any number has an answer, as the definition of this name has it.
 #[tactic(auto, unfolding(definition::specs::Addresses::segment_register))]
 pub fn segment_register(segment: u8) -> RegSpec
     ensures { result ≡ segment_register segment }

@@ -1,4 +1,5 @@
 // What a spec stands for, by its number.
+// Stays: specs are numbers of document 01, as the record's bytes have them; this crate is the place that knows them.
 ghost use Rattle.std.specs.Prelude.{◌≡◌};
 ghost use Rattle.laws.specs.Tests.{is_in};
 ghost use Rattle.definition.specs.Behaviors.{is_memory};

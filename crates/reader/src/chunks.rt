@@ -92,6 +92,7 @@ impl Reader {
     }
 
     // What a chunk brought, answered.
+    // Stays: no switch on steps but a match on the cases of an enum.
     #[tactic(auto, using(crate::proofs::Replies::brought_quietly))]
     fn answer(&mut self, t: Taking, log: &mut [u8], start: usize) -> Call
         requires going { self.old.stopped ≡ false }

@@ -18,6 +18,7 @@ pub enum Brought {
 }
 
 // How far a chunk is taken: what it brought, and the bytes taken.
+// Stays: a call answers how many bytes it took, and the next turn goes on there.
 #[derive(Clone, Copy)]
 pub struct Taking {
     pub brought: Brought,

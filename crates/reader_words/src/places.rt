@@ -1,4 +1,5 @@
 // The bytes of an item or of a file in 20 words, lowest byte first.
+// Stays: words and a place in them: the C caller keeps both places and the numbers in one array.
 ghost use Rattle.std.specs.Prelude.{◌≡◌, ◌+◌, ◌≤◌, length};
 ghost use Rattle.std.proofs.lemmas.List.Edits.{sets};
 ghost use Rattle.reader.specs.Places.{item_room};

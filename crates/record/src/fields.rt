@@ -1,4 +1,5 @@
 // A record's fields, where they stand in its lent bytes.
+// Stays: a function for each field that a writer reads in the arm that needs it (docs/DECISIONS.md): they differ in place and width.
 ghost use Rattle.std.specs.Prelude.{◌≡◌, ◌≤◌, ◌%◌, length};
 ghost use Rattle.record.specs.Records.{everyday_bytes, record_of, spec_at, reg_at, address_size};
 

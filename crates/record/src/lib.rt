@@ -21,6 +21,7 @@ pub use fields::{
 };
 
 // The kinds of records and their lengths: the second names a segment behind what the first has, the third has no digest.
+// Stays: a kind is a byte of the format (docs/FORMAT.md), and any byte has an answer.
 pub const RECORD_KIND: u8 = 0x10;
 
 pub const SEGMENT_KIND: u8 = 0x11;
@@ -34,6 +35,7 @@ pub const RECORD_BYTES: usize = EVERYDAY_BYTES + 4;
 pub const SEGMENT_BYTES: usize = RECORD_BYTES + 1;
 
 // The fields of a record, in their order: `size` is document 01's `mem_size`.
+// Stays: opcode, specs, banks and segment are document 01's numbers, `specs` stands beside `regs` in its order: a record has any of them.
 #[derive(Clone, Copy)]
 pub struct Record {
     pub opcode: u16,
@@ -68,6 +70,7 @@ impl Record {
     }
 
     // What every kind holds at the same places. It and `completed` are short enough to be inlined, where `parse` is not.
+    // Stays: four specs and four registers, each named once; a loop would fill arrays of zeros first, and is no plainer.
     #[tactic(auto, unfolding(crate::specs::Halves::plain_record, crate::specs::Records::record_of))]
     pub fn plain(b: &[u8]) -> Record
         requires { RecordLong b.now }
@@ -103,6 +106,7 @@ impl Record {
     }
 
     // One of four numbers, by a test for each: an array that is asked at a place lies in memory.
+    // Stays: for that reason; a visit asks for a spec in each turn of its loop.
     #[tactic(auto, using(crate::proofs::Laws::four_of_lem))]
     pub fn spec(self, i: u8) -> u8
         ensures { result ≡ spec_at self i }
@@ -130,6 +134,7 @@ impl Record {
 }
 
 // The length of a record by its kind, 0 for no kind.
+// Stays: a table in code is a match; 0 is no record's length, as `record_length` has it.
 #[tactic(auto, unfolding(crate::specs::Records::record_length))]
 pub fn length_of(kind: u8) -> usize
     ensures { result ≡ record_length kind }
@@ -199,6 +204,7 @@ fn lacks_digest(b: &[u8]) -> bool
 }
 
 // Whether some number of a record is outside its table.
+// Stays: one test for each number: each has a bound of its own.
 #[tactic(auto, unfolding(laws::specs::Tests::any, crate::specs::Records::outside, crate::specs::Records::record_of))]
 fn is_outside(b: &[u8]) -> bool
     requires { RecordLong b.now }

@@ -20,6 +20,7 @@ fn is_accessed(x: Record, i: u8) -> bool
 }
 
 // Nothing, or Reg4 with a number that the bank of `regs[3]` has not.
+// Stays: specs are numbers of document 01, as the record's bytes have them.
 #[tactic(auto, using(crate::proofs::Shapes::fourth_unnamed, crate::proofs::Shapes::spec_named, crate::proofs::Shapes::no_spec, crate::proofs::Shapes::past_specs))]
 fn is_unnamed(x: Record, spec: u8) -> bool
     ensures { result ≡ unnamed x (shape_of spec) }

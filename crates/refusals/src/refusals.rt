@@ -9,6 +9,7 @@ use operand::is_string;
 use record::Record;
 
 // List 24 names slot 0, and list 25 slots 0 and 1.
+// Stays: lists, here and below, and specs are numbers of document 01, as a record and its digest hold them.
 #[tactic(auto, unfolding(laws::specs::Tests::any, laws::specs::Tests::is_in))]
 fn lacks_slot(list: u16, first: u8, second: u8) -> bool
     ensures { result ≡ (is_in list (24 ∷ 25 ∷ []) && not (is_in first string_specs)) || (eqb list 25 && not (is_in second string_specs)) }

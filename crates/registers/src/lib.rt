@@ -14,6 +14,7 @@ use laws::Refusal;
 
 // How many values a file holds, and its length by its kind: the kind, four bytes of known bits, then the values. The plain kind holds
 // the general registers and rip; the other holds the bases of fs and gs behind them.
+// Stays: a kind is a byte of the format (docs/FORMAT.md), and any byte has an answer.
 pub const FILE_KIND: u8 = 0x20;
 
 pub const BASED_KIND: u8 = 0x21;
@@ -27,6 +28,7 @@ pub const FILE_BYTES: usize = 5 + 8 * PLAIN_SLOTS;
 pub const BASED_BYTES: usize = 5 + 8 * FILE_SLOTS;
 
 // A register: its bank, and its number there.
+// Stays: bank and number are bytes of the record, the file and the log, and any two have an answer.
 #[derive(Clone, Copy, PartialEq, Eq)]
 pub struct RegSpec {
     pub bank: u8,
@@ -44,6 +46,7 @@ pub struct TwoValues {
 }
 
 // The sixteen general registers, rip, and the bases of fs and gs, and a bit for each that is known.
+// Stays: document 01's form, the file as one struct by value; the known bits are those of the format.
 #[derive(Clone, Copy)]
 pub struct RegisterFile {
     pub values: [u64; FILE_SLOTS],
@@ -95,6 +98,7 @@ impl RegSpec {
 
 // How many registers each bank has. An arm for each bank: the compiler makes one constant table of them, where an array would be
 // built at each call.
+// Stays: a table in code is a match (docs/DECISIONS.md), here and for the tables below, each with numbers of its own.
 fn bank_numbers(bank: u8) -> u8
     ensures { result ≡ get_or bank_numbers bank 0 }
 {
@@ -171,6 +175,7 @@ impl RegisterFile {
     }
 
     // The same of a general register and of the base of fs or gs, by its number: short enough to be inlined, so that no file is copied.
+    // Stays: through `value` alone a visit took more instructions (docs/PERFORMANCE.md, the row of registers and bases by number).
     pub fn general(self, number: u8) -> Value
         ensures { result ≡ value_of self (reg 0 number) }
     {
@@ -195,6 +200,7 @@ impl RegisterFile {
 }
 
 // The values of fs and gs in a file's bytes: 0 in a kind that has none.
+// Stays: no twin of TwoValues but in form: this has the numbers of the bytes, that what is known; one over both would lose the names.
 #[derive(Clone, Copy)]
 struct Bases {
     fs: u64,
@@ -343,6 +349,7 @@ fn slot_of(x: RegSpec) -> u8
 }
 
 // Which part of it: Q and RIP are the whole; ah, ch, dh and bh the second byte.
+// Stays: a chain of tests, without a jump on the bank, as `value_in` says.
 #[tactic(auto, unfolding(crate::specs::Told::told_part))]
 fn part_of(x: RegSpec, word: u64) -> u64
     ensures { (result ≡ told_part x word) × (word < 2 ^ 64) }

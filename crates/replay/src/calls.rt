@@ -20,6 +20,7 @@ pub(crate) fn is_same(head: Head, subject: &[u8], file: &[u8], written: &[u8]) -
     answer(head.call, subject, file, lent, start) == head.answer && is_left(&buffer, start, written)
 }
 
+// Stays: no switch on steps but a match on the cases of an enum; the calls differ in what they take.
 fn answer(call: Option<Call>, subject: &[u8], file: &[u8], lent: &mut [u8], start: usize) -> u64 {
     match call {
         Some(Call::Visit) => machhurel::machhurel_visit(subject, file, lent, start),
@@ -33,6 +34,7 @@ fn answer(call: Option<Call>, subject: &[u8], file: &[u8], lent: &mut [u8], star
 }
 
 // Whether the bytes written stand from the start on, and every other byte is as it was lent, behind the lent part too.
+// Stays: each byte is held to what it must be; three slices compared would first need the start and the end inside the buffer.
 fn is_left(buffer: &[u8], start: usize, written: &[u8]) -> bool
     ensures { result ≡ true → (k : ℕ) → k < length buffer.now → slice_index buffer.now k ≡ left_at start written.now k }
 {

@@ -27,6 +27,7 @@ pub struct Case {
     pub next: usize,
 }
 
+// Stays: a list and a place, any place; so for `next`, where the list goes on.
 pub fn case_at(list: &[u8], at: usize) -> Option<Case>
     ensures { Whole (length list.now) result }
 {

@@ -5,6 +5,7 @@ ghost use Rattle.replay.specs.Parts.{IsPart, Within};
 use std::ops::Range;
 
 // The `count` bytes from a place on, where the list has them.
+// Stays: a list and a place: places come from the list's own bytes, and any of them has an answer.
 pub fn part_at(list: &[u8], at: usize, count: usize) -> Option<Range<usize>>
     ensures { IsPart (length list.now) at count result }
 {

@@ -4,6 +4,7 @@ use crate::cases::{case_at, holds};
 use std::io;
 
 // The place of the next case; how many cases each call had, in the order of their numbers; how many differ.
+// Stays: `at` is where the list goes on; a case's parts are cut out of the list there.
 #[derive(Clone, Copy)]
 pub struct Tally {
     pub at: usize,
@@ -36,6 +37,7 @@ impl Tally {
     }
 }
 
+// Stays: the runtime and the list go along as two; neither is a part of the other.
 pub(crate) fn replay_all(
     rt: &impl Print,
     list: &[u8],

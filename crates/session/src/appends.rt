@@ -8,6 +8,7 @@ use definition::Answer;
 
 // How many bytes of the buffer are used, from its start on; how many events stand there; and how many of these are memory events at
 // unknown addresses.
+// Stays: the buffer is the caller's and is lent to each append, so only how much of it is used stands here.
 #[derive(Clone, Copy)]
 pub struct Session {
     pub used: usize,

@@ -26,6 +26,7 @@ impl From<Session> for [u64; 3] {
     }
 }
 
+// Stays: bytes, file and log, as the C call has them.
 pub fn append_words(session: &mut [u64; 3], bytes: &[u8], file: &[u8], log: &mut [u8]) -> u64
     ensures { (result, (session.new, log.new))
         ≡ in_words (appended bytes.now file.now (session_in session.old, log.old)) }
@@ -35,6 +36,7 @@ pub fn append_words(session: &mut [u64; 3], bytes: &[u8], file: &[u8], log: &mut
     answer_bits(appended.answer)
 }
 
+// Stays: the C interface, machhurel_reset answers this number.
 pub fn reset_words(session: &mut [u64; 3]) -> u64
     ensures { (result, session.new) ≡ empty_words }
 {

@@ -1,4 +1,5 @@
 // The explicit operands: for each its read part, then its write part.
+// Stays: document 01's form, each writer is lent the part of the log behind what was written so far, with room for its own events.
 ghost use Rattle.std.specs.Prelude.{◌≡◌, ◌≤◌, ◌<◌, length};
 ghost use Rattle.laws.specs.Lending.{size, Logged};
 ghost use Rattle.record.specs.Records.{everyday_bytes, record_of};
@@ -120,6 +121,7 @@ fn put_part(log: &mut [u8], b: &[u8], spec: u8, way: Way, at: Sources, added: Va
 }
 
 // Even parts read, odd parts write.
+// Stays: a part is the number of a bit of the record's accesses.
 #[tactic(auto, unfolding(crate::specs::Parts::way_of))]
 fn way_of(part: u8) -> Way
     ensures { result ≡ way_of part }

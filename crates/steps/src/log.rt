@@ -1,4 +1,5 @@
 // The whole log of a visit.
+// Stays: document 01's form, each writer is lent the part of the log behind what was written so far, with room for its own events.
 ghost use Rattle.std.specs.Prelude.{◌≡◌, ◌≤◌, length};
 ghost use Rattle.laws.specs.Lending.{size, Logged};
 ghost use Rattle.access.specs.Accesses.{access_number};

@@ -64,6 +64,7 @@ fn add_memory(words: &mut [u64; WORDS], bytes: usize, n: u8)
     raise(words, bytes, n as u64);
 }
 
+// Stays: no switch on steps but a match on the cases of an enum, each with what it holds.
 #[tactic(auto, unfolding(crate::specs::Sheets::additions, crate::specs::Sheets::raised_by, watching::specs::Verdicts::verdict_of))]
 fn add_event(words: &mut [u64; WORDS], v: Watched, e: Event)
     requires { is_event e ≡ true }

@@ -84,6 +84,7 @@ fn visit_tight(b: &[u8], file: &[u8], log: &mut [u8], start: usize) -> Answer
     lay(answer, &aside, log, start)
 }
 
+// Stays: bytes, file, log and start, as the C call has them.
 #[cycle(visit_accesses_visit_tight)]
 pub fn visit_accesses(b: &[u8], file: &[u8], log: &mut [u8], start: usize) -> Answer
     ensures { (result, log.new) ≡ visit_of b.now file.now log.old start }

@@ -1,4 +1,5 @@
 // What a step and an event of a watch answer, each part at its bit.
+// Stays: no From: neither u64 nor an answer is a type of this crate, and counts must lie in their bits.
 ghost use Rattle.std.specs.Prelude.{◌≡◌, ◌^◌, ◌<◌, IfOk};
 ghost use Rattle.definition.specs.Visits.{opcode_of};
 ghost use Rattle.watching.specs.Tallies.{total};
@@ -43,6 +44,7 @@ pub fn stepped_bits(stepped: Result<Stepped, Refusal>) -> u64
     }
 }
 
+// Stays: address and length, log and place, as the C call has them.
 pub fn verdict_bits(address: u64, length: u64, log: &[u8], at: usize) -> u64
     ensures { result ≡ naming_bits at (name_at (variable address length) log.now at) }
 {

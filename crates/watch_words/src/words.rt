@@ -9,6 +9,7 @@ use laws::Refusal;
 use watching::{Stepped, Tally, Variable, Watch};
 
 // The word for no number.
+// Stays: the words are those of the C interface; inside, it is an Option.
 const NEVER: u64 = u64::MAX;
 
 fn when_in(word: u64) -> Option<u64>
@@ -23,8 +24,7 @@ fn when_word(number: Option<u64>) -> u64
     number.unwrap_or(NEVER)
 }
 
-// Stays: no From between Watch and [u64; 10] may stand here, since neither is this crate's, and a type of its own round the words would
-// be put on and taken off in both calls.
+// Stays: no From: neither Watch nor [u64; 10] is a type of this crate, and one round the words would be put on and off in both calls.
 #[tactic(auto, unfolding(crate::specs::Words::watch_in))]
 fn watch_in(words: &[u64; 10]) -> Watch
     ensures { result ≡ watch_in words.now }
@@ -74,6 +74,7 @@ fn words_of(w: Watch) -> [u64; 10]
     ]
 }
 
+// Stays: the C interface, machhurel_watch_new answers this number.
 pub fn new_watch(watch: &mut [u64; 10], address: u64, length: u64) -> u64
     ensures { (result, watch.new) ≡ new_words (new_of address length) watch.old }
 {

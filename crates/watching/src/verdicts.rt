@@ -123,6 +123,7 @@ pub fn verdict_on(v: Variable, e: Event) -> Verdict
 }
 
 // Byte i of the variable is among the n bytes from an address on.
+// Stays: a and n are the address and the size of a memory event, one by one as Event has them.
 #[tactic(auto, using(crate::proofs::Overlap::touching))]
 fn touches(v: Variable, i: u64, a: u64, n: u8) -> bool
     ensures { result ≡ is_in ((v.address + i) % word) (bytes_from a n) }
@@ -140,6 +141,7 @@ fn with_low(bits: u8, low: bool) -> u8
 }
 
 // The event at a place of a log, named against the variable. A length that no variable has is refused 2, before the log is looked at.
+// Stays: a log and a place, as the C call has them.
 #[tactic(auto, unfolding(crate::specs::Verdicts::name_at))]
 pub fn name_event(v: Variable, log: &[u8], at: usize) -> Naming
     ensures { result ≡ name_at v log.now at }

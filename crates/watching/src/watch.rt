@@ -48,6 +48,7 @@ fn fresh(variable: Variable) -> Watch
 
 impl Watch {
     // A length of 1 to 8 bytes; another is refused 2.
+    // Stays: address and length, as the C call has them; they are one Variable at once.
     #[tactic(auto, unfolding(crate::specs::Traces::new_of))]
     pub fn new(address: u64, length: u64) -> Result<Watch, Refusal>
         ensures { result ≡ new_of address length }
