@@ -207,10 +207,7 @@ pub fn fix_fields(
     ensures { result ≡ fix_up (rule_of opcode) (fields_of opcode count spec bank size prefixes d) d }
 {
     let none = RegSpec { bank: 0, number: 0 };
-    let second = RegSpec {
-        bank,
-        number: 0,
-    };
+    let second = RegSpec { bank, number: 0 };
     let specs = [spec, 0, 0, 0];
     let regs = [none, second, none, none];
     let x = Record {

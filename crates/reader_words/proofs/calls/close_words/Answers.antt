@@ -6,4 +6,4 @@ pub returns-in-Ok : goal.returns-in-Ok
 returns-in-Ok c = closed_by _ _ 0 c.reader_in.ensures (rw c.in-Ok.is at c.close-closed.ensures)
 
 pub returns-in-Err : goal.returns-in-Err
-returns-in-Err c = closed_by _ _ c.from-in-Err.result c.reader_in.ensures (c.from-in-Err.ensures ∙ c.from.ensures ∙ (rw c.in-Err.is at c.close-closed.ensures))
+returns-in-Err c = closed_by _ _ c.from.result c.reader_in.ensures (c.from.ensures ∙ (rw c.in-Err.is at c.close-closed.ensures))
