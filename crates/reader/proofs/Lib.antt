@@ -1,3 +1,4 @@
+pub mod Rooms
 pub mod Places
 pub mod Parts
 pub mod Turns

@@ -1,9 +1,11 @@
 -- The parts of a call.
-use Rattle.std.specs.Prelude.{ℕ, ◌≡◌, Bool, false, Result, Ok, Err}
+use Rattle.std.specs.Prelude.{ℕ, ◌≡◌, ◌≤◌, length, Bool, false, Result, Ok, Err}
 use Rattle.laws.specs.Refusals.{refusal_number}
 use Rattle.laws.specs.declared.refusals.Refusal.{Refusal}
 use Rattle.laws.specs.declared.refusals.Refusal.TheVariants.{Malformed, Outside, BadFile, Complex, Nameless, Sizeless, NoRoom, Cut, Unlisted, Full}
 use Rattle.streams.specs.declared.Call.{Call}
+use Rattle.reader.specs.Places.{item_room}
+use Rattle.reader.specs.Held.{reader_with, checked}
 use Rattle.reader.specs.Items.{PartIn}
 use Rattle.reader.specs.declared.held.Reader.{Reader}
 use Rattle.reader.specs.declared.items.Brought.TheVariants.{Nothing}
@@ -11,6 +13,13 @@ use Rattle.reader.specs.declared.items.Brought.TheVariants.{Nothing}
 -- a reader that has not stopped keeps no byte, or a part of an item
 pub record Going (r : Reader) : Type 0 where
   pub part : r.stopped ≡ false → PartIn Nothing r.kept
+
+-- what a reader is that holds what it should
+pub record Kept (r : Reader) : Type 0 where
+  pub inside : length r.kept ≤ item_room
+  pub held : length r.file ≤ item_room
+  pub part : r.stopped ≡ false → PartIn Nothing r.kept
+  pub same : checked r ≡ reader_with r
 
 abbrev pub calling : ℕ → Bool → ℕ → ℕ → ℕ → Call
 calling number finished taken n opcode = record { number = number; finished = finished; taken = taken; n = n; opcode = opcode }

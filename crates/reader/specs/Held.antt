@@ -1,5 +1,5 @@
 -- A reader as the code holds it: the bytes of the unfinished item and of the latest good file, each in a place of its own.
-use Rattle.std.specs.Prelude.{ℕ, ◌-◌, List, [], Bool, cond, ◌&&◌, ◌||◌, length, get_or, take, ltb, eqb}
+use Rattle.std.specs.Prelude.{ℕ, ◌-◌, ◌≤◌, ◌≡◌, List, [], Bool, cond, ◌&&◌, ◌||◌, length, get_or, take, ltb, eqb}
 use Rattle.laws.specs.Lending.{splice}
 use Rattle.registers.specs.Files.{is_file}
 use Rattle.streams.specs.Cuts.{halted}
@@ -33,6 +33,13 @@ holds_file file n = eqb (length file) item_room && is_latest (take n file)
 unfoldable pub reader_in : Numbers → List ℕ → List ℕ → StreamReader
 reader_in r item file =
     cond (holds_part item r.kept && holds_file file r.file) (record { kept = take r.kept item; file = take r.file file; stopped = r.stopped }) (halted [])
+
+-- places that are whole, and numbers of bytes in them
+pub record Inside (r : Numbers) (item file : List ℕ) : Type 0 where
+  pub item_long : length item ≡ item_room
+  pub file_long : length file ≡ item_room
+  pub kept_fits : r.kept ≤ item_room
+  pub file_fits : r.file ≤ item_room
 
 -- what a call answers, the reader that it leaves, and the log buffer
 pub record Handed : Type 0 where

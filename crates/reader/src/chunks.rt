@@ -5,11 +5,11 @@ ghost use Rattle.definition.specs.Limits.{most_bytes};
 ghost use Rattle.definition.specs.Visits.{number_of, opcode_of, count_of};
 ghost use Rattle.streams.specs.Cuts.{closing_of};
 ghost use Rattle.streams.specs.Streams.{outcome_of};
-ghost use Rattle.reader.specs.Held.{is_part, is_latest, reader_with, checked, handing, handed_to, left_by};
+ghost use Rattle.reader.specs.Held.{is_part, is_latest, reader_with, reader_in, checked, handing, handed_to, left_by};
 ghost use Rattle.reader.specs.Items.{PartIn, closed};
-ghost use Rattle.reader.specs.Chunks.{answering, calling, Going};
+ghost use Rattle.reader.specs.Chunks.{answering, calling, Going, Kept};
 
-use crate::held::Reader;
+use crate::held::{Numbers, Reader};
 use crate::items::{Brought, Taking};
 use crate::kinds::{is_file, length_of};
 use definition::Answer;
@@ -85,9 +85,7 @@ impl Reader {
         ensures going { Going self.new }
     {
         if !self.is_sound() {
-            self.kept.clear();
-            self.file.clear();
-            self.stopped = true;
+            self.halt();
         }
     }
 
@@ -152,4 +150,15 @@ impl Reader {
             Err(Refusal::Cut)
         }
     }
+}
+
+// The reader that numbers and the bytes of two places hold; a stopped one where they hold none.
+#[tactic(auto, using(crate::proofs::Sound::kept))]
+pub fn checked(r: Numbers, item: &[u8], file: &[u8]) -> Reader
+    ensures same { reader_with result ≡ reader_in r item.now file.now }
+    ensures kept { Kept result }
+{
+    let mut reader = Reader::of(r, item, file);
+    reader.check();
+    reader
 }

@@ -58,8 +58,7 @@ impl Reader {
         if !is_file(item) {
             return Brought::BadFile;
         }
-        self.file.clear();
-        self.file.add(self.kept.bytes());
+        self.file = self.kept;
         self.kept.clear();
         Brought::Nothing
     }

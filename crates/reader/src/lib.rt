@@ -7,4 +7,5 @@ mod held; // held.rt: a reader, and the places of its bytes
 mod items; // items.rt: a chunk taken item by item
 mod kinds; // kinds.rt: the kinds of items and their lengths
 
+pub use chunks::checked;
 pub use held::{ITEM_ROOM, Numbers, Place, Reader};

@@ -2,10 +2,8 @@
 use Prim.Native.Nat.{ℕ}
 use mathlib.Core.Path.{◌≡◌, refl, sym, ap, ap₂, ◌∙◌}
 use mathlib.Core.List.{List, []}
-use mathlib.Core.Bool.{Bool, true, false, true≢false, cond, ◌&&◌}
+use mathlib.Core.Bool.{Bool, true, false, cond, ◌&&◌}
 use lib.ListN.{length, replicate}
-use lib.Dec.{eqb}
-use lib.Pointwise.{pointwise, bytes_decides}
 use Rattle.laws.specs.Words.{number_at}
 use Rattle.registers.specs.Files.{numbers_from}
 use Rattle.streams.specs.Cuts.{halted, closing_of}
@@ -29,7 +27,7 @@ unfolding told_by
 told_from w item file x e p q = e ∙ ap₂ (λ (i : List ℕ) (f : List ℕ). reader_in (numbers_in w) i f) p q
 
 -- a reader that is checked is what words tell of, and is written again
-module _ (w : List ℕ) (r : Reader) (told : checked r ≡ told_by w) (v : List ℕ) (again : v ≡ words_of (reader_with r)) where
+module _ (w : List ℕ) (r : Reader) (told : checked r ≡ told_by w) where
   abbrev sound : Bool
   sound = is_part r.kept && is_latest r.file
 
@@ -45,25 +43,20 @@ module _ (w : List ℕ) (r : Reader) (told : checked r ≡ told_by w) (v : List 
   by_told = ap by (sym told)
 
   -- words that are those of the reader that they tell of
-  pub held_by : pointwise eqb v w ≡ true → checked r ≡ reader_by w
+  pub held_by : w ≡ words_of (reader_with r) → checked r ≡ reader_by w
   unfolding checked
-  held_by h = go sound ∙ sym by_told
+  held_by same = go sound ∙ sym by_told
     where
-      same : words_of (reader_with r) ≡ w
-      same = sym again ∙ (bytes_decides v w).0 h
-
       go : (t : Bool) → cond t (reader_with r) (halted []) ≡ by (cond t (reader_with r) (halted []))
-      go true = sym (ap (λ (l : List ℕ). cond (same_words l w reader_words) (reader_with r) (halted [])) same ∙ rw (same_as_itself w reader_words))
+      go true = sym (ap (λ (l : List ℕ). cond (same_words l w reader_words) (reader_with r) (halted [])) (sym same) ∙ rw (same_as_itself w reader_words))
       go false = sym (same_ends (same_words (words_of (halted [])) w reader_words) (halted []))
 
-  pub held_by_none : length w ≡ reader_words → pointwise eqb v w ≡ false → (s : Reader) → reader_with s ≡ halted [] → checked s ≡ reader_by w
+  pub held_by_none : length w ≡ reader_words → (w ≡ words_of (reader_with r) → ⊥) → (s : Reader) → reader_with s ≡ halted [] → checked s ≡ reader_by w
   unfolding checked
-  held_by_none long h s e = stopped_is s e ∙ sym (by_told ∙ go sound)
+  held_by_none long differ s e = stopped_is s e ∙ sym (by_told ∙ go sound)
     where
       other : (t : Bool) → same_words (words_of (reader_with r)) w reader_words ≡ t → cond t (reader_with r) (halted []) ≡ halted []
-      other true e =
-          let same : v ≡ w = again ∙ same_lists (words_of (reader_with r)) w (words_long_lem (reader_with r)) long e in
-          absurd (true≢false (sym ((bytes_decides v w).1 same) ∙ h))
+      other true e = absurd (differ (sym (same_lists (words_of (reader_with r)) w (words_long_lem (reader_with r)) long e)))
       other false e = refl
 
       go : (t : Bool) → by (cond t (reader_with r) (halted [])) ≡ halted []

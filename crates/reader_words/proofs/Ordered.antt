@@ -41,7 +41,7 @@ module _ (a b : List ℕ) (p : length a ≡ 20) (q : length b ≡ 20) (k h s : �
   pub built : set (set (set (sets (sets (replicate 48 0) 0 a) 20 b) 40 k) 41 h) 42 s ≡ a ++ (b ++ (k ∷ h ∷ s ∷ replicate 5 0))
   built = ap (λ (l : List ℕ). sets (sets l 20 b) 40 (k ∷ h ∷ s ∷ [])) first ∙ ap (λ (l : List ℕ). sets l 40 (k ∷ h ∷ s ∷ [])) second ∙ third
 
-bit_is : (t : Bool) → from_bool t ≡ cond t 1 0
+pub bit_is : (t : Bool) → from_bool t ≡ cond t 1 0
 bit_is true = refl
 bit_is false = refl
 

@@ -1,7 +1,7 @@
 -- A reader as the 48 words that a C caller keeps: 20 words of the unfinished item's bytes and 20 of the latest good file's, lowest byte
 -- first and zero bytes behind; how many bytes each has; 1 where the reader has stopped; and words that are 0.
-use Rattle.std.specs.Prelude.{ℕ, zero, suc, ◌+◌, List, [], ◌∷◌, ◌++◌, Bool, true, cond, not, ◌&&◌, length, get_or, replicate, eqb}
-use Rattle.laws.specs.Words.{little}
+use Rattle.std.specs.Prelude.{ℕ, zero, suc, ◌≡◌, ◌+◌, ◌*◌, ◌<◌, List, [], ◌∷◌, ◌++◌, Bool, true, cond, not, ◌&&◌, length, get_or, replicate, eqb}
+use Rattle.laws.specs.Words.{number_at, little}
 use Rattle.registers.specs.Files.{numbers_from}
 use Rattle.answers.specs.Answers.{at}
 use Rattle.streams.specs.Cuts.{halted}
@@ -27,6 +27,10 @@ bytes_in w from = bytes_from w from place_words
 
 unfoldable pub words_in : List ℕ → List ℕ
 words_in l = numbers_from l 0 place_words
+
+-- the words from a place on are those of these bytes
+abbrev pub AreAt : List ℕ → ℕ → List ℕ → Type 0
+AreAt w from b = (i : ℕ) → i < place_words → get_or w (from + i) 0 ≡ number_at b (8 * i) 8
 
 -- the words of a reader
 unfoldable pub words_of : StreamReader → List ℕ

@@ -3,7 +3,8 @@ ghost use Rattle.std.specs.Prelude.{◌≡◌, ◌^◌, ◌<◌};
 ghost use Rattle.reader.specs.Held.{handed_to};
 ghost use Rattle.reader_words.specs.Words.{reader_by, call_bits, handed_words, fresh_words, closed_words};
 
-use crate::words::{reader_in, words_of};
+use crate::words::{hold, put_words};
+use reader::Reader;
 use streams::Call;
 
 // Stays: no From, which has no `requires`: n must lie in its bits. `as` is for a usize, which has no From to u64.
@@ -37,9 +38,10 @@ pub fn read_words(
     ensures { (result, taken.new, reader.new, log.new)
         ≡ handed_words (handed_to (reader_by reader.old) chunk.now log.old start) }
 {
-    let mut held = reader_in(reader);
+    let mut held = Reader::halted();
+    hold(&mut held, reader);
     let call = held.read_chunk(chunk, log, start);
-    *reader = words_of(&held);
+    put_words(reader, &held);
     *taken = call.taken as u64;
     call_bits(call)
 }
@@ -47,7 +49,9 @@ pub fn read_words(
 pub fn close_words(reader: &mut [u64; 48]) -> u64
     ensures { (result, reader.new) ≡ closed_words (reader_by reader.old) }
 {
-    let closed = reader_in(reader).close();
+    let mut held = Reader::halted();
+    hold(&mut held, reader);
+    let closed = held.close();
     *reader = [0; 48];
     match closed {
         Ok(()) => 0,

@@ -1,8 +1,7 @@
 // The bytes of an item or of a file in 20 words, lowest byte first.
 // Stays: words and a place in them: the C caller keeps both places and the numbers in one array.
-ghost use Rattle.std.specs.Prelude.{◌≡◌, ◌+◌, ◌≤◌, length};
+ghost use Rattle.std.specs.Prelude.{◌≡◌, ◌+◌, ◌≤◌};
 ghost use Rattle.std.proofs.lemmas.List.Edits.{sets};
-ghost use Rattle.reader.specs.Places.{item_room};
 ghost use Rattle.reader_words.specs.Words.{reader_words, place_words, bytes_in, words_in};
 
 use reader::ITEM_ROOM;
@@ -23,15 +22,13 @@ pub fn unpack(words: &[u64; 48], from: usize) -> [u8; ITEM_ROOM]
     out
 }
 
-// The words of bytes, from a place on, with zeros behind the bytes.
+// The words of a place's bytes, from a place of the words on.
 #[tactic(auto, using(crate::proofs::Packing::storing))]
-pub fn pack(words: &mut [u64; 48], from: usize, bytes: &[u8])
-    requires { (from + place_words ≤ reader_words) × (length bytes.now ≤ item_room) }
-    ensures { words.new ≡ sets words.old from (words_in bytes.now) }
+pub fn pack(words: &mut [u64; 48], from: usize, room: &[u8; ITEM_ROOM])
+    requires { from + place_words ≤ reader_words }
+    ensures { words.new ≡ sets words.old from (words_in room.now) }
 {
-    let mut place = [0; ITEM_ROOM];
-    place[..bytes.len()].copy_from_slice(bytes);
     for i in 0..PLACE_WORDS {
-        words[from + i] = laws::u64_at(&place, 8 * i);
+        words[from + i] = laws::u64_at(room, 8 * i);
     }
 }

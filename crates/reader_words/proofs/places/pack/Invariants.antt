@@ -5,4 +5,4 @@ use Rattle.reader_words.proofs.Packing.{to_come}
 use Rattle.reader_words.proofs.places.pack.Given as goal
 
 abbrev pub invariant-loop-i : goal.invariant-loop-i
-invariant-loop-i l = sets l.words (l.fn.from + l.i) (to_come l.place l.i) ≡ sets l.fn.words l.fn.from (words_in l.place)
+invariant-loop-i l = sets l.words (l.fn.from + l.i) (to_come l.room l.i) ≡ sets l.fn.words l.fn.from (words_in l.room)
