@@ -1,6 +1,6 @@
 // Exception vectors, and sets of them.
 ghost use Rattle.std.specs.Prelude.{◌≡◌, ◌<◌};
-ghost use Rattle.access.specs.Exceptions.{exception_of, info_of, any_of, none_of, set_of, may_of, with_bit};
+ghost use Rattle.access.specs.Exceptions.{exception_of, info_of, any_of, none_of, set_of, then_set, may_of, with_bit};
 
 use crate::{Exception, ExceptionInfo};
 use laws::Refusal;
@@ -120,4 +120,15 @@ impl ExceptionInfo {
         self.vectors = with_bit(self.vectors, e.vector, b);
         Ok(self)
     }
+}
+
+// A chain of settings: one more, where none was refused before; the first refusal stands.
+pub fn then_set(
+    answer: Result<ExceptionInfo, Refusal>,
+    e: Exception,
+    b: bool,
+) -> Result<ExceptionInfo, Refusal>
+    ensures { result ≡ then_set answer e.vector b }
+{
+    answer?.set(e, b)
 }

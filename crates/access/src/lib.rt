@@ -5,7 +5,7 @@ mod accesses;
 mod exceptions;
 mod privileges;
 
-pub use exceptions::with_bit;
+pub use exceptions::{then_set, with_bit};
 
 // How an operand is used: the lower bit of its number is a read, the upper one a write.
 #[derive(Clone, Copy, PartialEq, Eq)]

@@ -53,6 +53,11 @@ not_same d e differ = told (same_event d e) refl
     told true h = absurd (differ (same_is d e h))
     told false h = refl
 
+-- what a comparison answers
+pub same_when : (d e : Event) (t : Bool) → ((t ≡ true → d ≡ e) × (d ≡ e → t ≡ true)) → t ≡ same_event d e
+same_when d e true h = sym (ap (same_event d) (sym (h.0 refl)) ∙ same_self d)
+same_when d e false h = sym (not_same d e (λ q. no_false (sym (h.1 q))))
+
 pub no_cons : (x : Event) (xs : List Event) → x ∷ xs ≡ [] → ⊥
 no_cons x xs e = let z = ap length e in omega arith
 

@@ -3,6 +3,7 @@
 
 mod held; // held.rt: number, sign and part in one struct
 mod logs; // logs.rt: number, sign and place; the part of the second log
+mod same; // same.rt: one event and another
 mod walk; // walk.rt: the events that both logs have
 
 pub use held::{Difference, compare};

@@ -3,6 +3,7 @@ ghost use Rattle.std.specs.Prelude.{◌≡◌, ◌≤◌, length};
 ghost use Rattle.event.specs.Wholes.{events_in, whole_of};
 ghost use Rattle.difference.specs.Partings.{parting_at};
 
+use crate::same::same_event;
 use definition::Reading;
 
 // Where the events end that both logs begin with, as far as both read. Equal events are equally long, so one place
@@ -20,7 +21,7 @@ pub fn shared_end(first: &[u8], second: &[u8]) -> usize
         let Reading::Found(e, next) = event::read_event(second, at) else {
             return at;
         };
-        if d == e {
+        if same_event(d, e) {
             at = next;
         } else {
             return at;

@@ -6,7 +6,7 @@ ghost use Rattle.access.specs.Accesses.{access_number, access_of};
 ghost use Rattle.access.specs.Privileges.{level_number, level_of};
 ghost use Rattle.digest.specs.Digests.{empty_digest, privilege_of, flags_access, access_at, is_nontrivial, is_complex};
 ghost use Rattle.digest.specs.Digests.{with_privilege, with_flags, with_nontrivial, with_complex};
-ghost use Rattle.digest.specs.Digests.{operand_answer, list_answer};
+ghost use Rattle.digest.specs.Digests.{operand_answer, list_answer, then};
 
 use access::{Access, PrivilegeLevel};
 use laws::Refusal;
@@ -136,4 +136,25 @@ impl BehaviorDigest {
     {
         laws::is_set(self.behavior as u32, 5)
     }
+}
+
+// A chain of setters that can refuse: the first refusal stands.
+// Stays: one for each of the two setters, as they have; one over both would take the setter as a closure, and say less by its name.
+pub fn then_operand(
+    answer: Result<BehaviorDigest, Refusal>,
+    operand: u8,
+    access: Access,
+) -> Result<BehaviorDigest, Refusal>
+    ensures { result ≡ then answer (operand_answer operand (access_number access)) }
+{
+    answer?.set_operand(operand, access)
+}
+
+pub fn then_implicit_ops(
+    answer: Result<BehaviorDigest, Refusal>,
+    list: u16,
+) -> Result<BehaviorDigest, Refusal>
+    ensures { result ≡ then answer (list_answer list) }
+{
+    answer?.set_implicit_ops(list)
 }

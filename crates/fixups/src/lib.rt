@@ -5,7 +5,7 @@ ghost use Rattle.std.specs.Prelude.{◌≡◌};
 ghost use Rattle.access.specs.Exceptions.{info_of};
 ghost use Rattle.definition.specs.Behaviors.{digest_of, fixed_up, complex, may_protect, exceptions_of, digest_call, privilege_call, exceptions_call};
 
-use access::{Exception, ExceptionInfo, PrivilegeLevel};
+use access::{Exception, ExceptionInfo, PrivilegeLevel, then_set};
 use digest::BehaviorDigest;
 use laws::Refusal;
 use record::Record;
@@ -87,10 +87,8 @@ fn may_protect(x: Record) -> bool
 pub fn exceptions_of(x: Record) -> ExceptionInfo
     ensures { result ≡ info_of (exceptions_of x) }
 {
-    let protected = ExceptionInfo::empty()
-        .set(Exception::GP, may_protect(x))
-        .unwrap();
-    protected.set(Exception::PF, memory::may_fault(x)).unwrap()
+    let protected = ExceptionInfo::empty().set(Exception::GP, may_protect(x));
+    then_set(protected, Exception::PF, memory::may_fault(x)).unwrap()
 }
 
 // The calls over a record's bytes: each hands on why they are no record.

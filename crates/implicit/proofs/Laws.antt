@@ -1,5 +1,5 @@
 -- A walk along a list, i = 0, 1, .. until `entry_at` answers none: it meets each entry in turn, and there are at most four. Assumes nothing.
-use Rattle.std.specs.Prelude.{None, Some, slice_get}
+use Rattle.std.specs.Prelude.{Option, None, Some, slice_get}
 use Rattle.std.proofs.lemmas.Option.{slice_get_within, slice_get_past}
 use Prim.Native.Nat.{ℕ, zero, suc, zero-le, ◌+◌, ◌≤◌, ◌<◌}
 use native.Mathlib.Numerals.{add-one}
@@ -9,6 +9,7 @@ use mathlib.Core.Path.{◌≡◌, refl}
 use mathlib.Core.List.{List, [], ◌∷◌}
 use lib.Dec.{leb}
 use lib.ListN.{length, drop, drop_of_length-le, get_or-eq_default}
+use Rattle.laws.specs.Lists.{each, flat}
 use Rattle.laws.proofs.Every.{at}
 use Rattle.implicit.specs.declared.Entry.{Entry}
 use Rattle.implicit.specs.Lists.{implicits, implicit_of, entry_at}
@@ -52,3 +53,21 @@ step l i p = rw (add-one i) (onward (implicit_of l) i p)
 pub stop : (l i : ℕ) → entry_at l i ≡ None → drop i (implicit_of l) ≡ []
 unfolding entry_at
 stop l i p = drop_of_length-le (implicit_of l) (ended (implicit_of l) i p)
+
+-- a list by its four places, of which those past its end give nothing
+four_places :
+    {B : Type 0} (f : Option Entry → List B) → f None ≡ [] → (es : List Entry) → length es ≤ 4
+    → flat (f (slice_get es 0) ∷ f (slice_get es 1) ∷ f (slice_get es 2) ∷ f (slice_get es 3) ∷ []) ≡ each (λ e. f (Some e)) es
+unfolding flat each
+four_places f z [] h = rw z
+four_places f z (a ∷ []) h = rw z
+four_places f z (a ∷ b ∷ []) h = rw z
+four_places f z (a ∷ b ∷ c ∷ []) h = rw z
+four_places f z (a ∷ b ∷ c ∷ d ∷ []) h = refl
+four_places f z (a ∷ b ∷ c ∷ d ∷ e ∷ es) h = absurd (omega arith)
+
+pub unrolled :
+    {B : Type 0} (f : Option Entry → List B) → f None ≡ [] → (l : ℕ)
+    → flat (f (entry_at l 0) ∷ f (entry_at l 1) ∷ f (entry_at l 2) ∷ f (entry_at l 3) ∷ []) ≡ each (λ e. f (Some e)) (implicit_of l)
+unfolding entry_at
+unrolled f z l = four_places f z (implicit_of l) (at_most_four l)

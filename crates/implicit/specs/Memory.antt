@@ -1,5 +1,5 @@
 -- Which entries are memory forms, whether they read or write.
-use Rattle.std.specs.Prelude.{Bool, true, false}
+use Rattle.std.specs.Prelude.{Bool, true, false, Option, Some, None}
 use Rattle.implicit.specs.declared.ImplicitOperand.{ImplicitOperand}
 use Rattle.implicit.specs.declared.ImplicitOperand.TheVariants.{Register, MemDeref, Disp, MemBaseIndexScale}
 use Rattle.implicit.specs.declared.Entry.{Entry}
@@ -15,3 +15,8 @@ memory_form (MemBaseIndexScale x y s) = true
 abbrev pub memory_entry : Entry → Bool
 memory_entry (Operand o way) = memory_form o
 memory_entry (Slot n way) = true
+
+-- past a list's end there is none
+abbrev pub memory_at : Option Entry → Bool
+memory_at (Some e) = memory_entry e
+memory_at None = false

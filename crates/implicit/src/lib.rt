@@ -6,7 +6,7 @@ ghost use Rattle.laws.specs.Tests.{any};
 ghost use Rattle.implicit.specs.Codes.{entry_of, row_of};
 ghost use Rattle.implicit.specs.Lists.{implicit_of, entry_at};
 ghost use Rattle.implicit.specs.Ways.{access_by};
-ghost use Rattle.implicit.specs.Memory.{memory_form, memory_entry};
+ghost use Rattle.implicit.specs.Memory.{memory_form, memory_entry, memory_at};
 
 use access::Access;
 use registers::RegSpec;
@@ -148,6 +148,16 @@ pub fn is_memory(e: Entry) -> bool
     match e {
         Entry::Operand(o, _) => is_memory_form(o),
         Entry::Slot(_, _) => true,
+    }
+}
+
+// The same of what `implicit_entry` answers: past a list's end there is no memory.
+pub fn is_memory_at(e: Option<Entry>) -> bool
+    ensures { result ≡ memory_at e }
+{
+    match e {
+        Some(e) => is_memory(e),
+        None => false,
     }
 }
 

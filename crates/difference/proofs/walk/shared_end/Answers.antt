@@ -1,10 +1,8 @@
 -- An event of the second log ends further on, within it. Assumes nothing.
 use native.Mathlib.Omega.{arith}
-use mathlib.Core.Path.{◌≡◌, sym, ◌∙◌}
+use mathlib.Core.Path.{sym, ◌∙◌}
 use Rattle.event.proofs.Fronts.{further}
 use Rattle.difference.proofs.Walks.{first_stops, second_stops, parts, both}
-use borrow.Author.Rules.{rules}
-use Rattle.difference.proofs.Lists.{same_self, not_same}
 use Rattle.difference.proofs.walk.shared_end.Goals as goal
 
 -- the first log has no event there
@@ -31,14 +29,14 @@ loop-d-preserved c =
     let second = sym c.read_event-in-loop-d.ensures ∙ c.in-Found-read_event.is in
     record {
       inside = m.1;
-      shared = c.loop-d.invariant.shared ∙ both c.args.first.now c.args.second.now c.loop-d.at _ first _ second (let same : c.in-Found.d ≡ c.in-Found-read_event.e = search rules in rw same (same_self c.in-Found-read_event.e));
+      shared = c.loop-d.invariant.shared ∙ both c.args.first.now c.args.second.now c.loop-d.at _ first _ second (sym c.same_event.ensures ∙ c.if-same_event.true);
     }
 
 -- two that differ
-pub returns-else-eq : goal.returns-else-eq
-returns-else-eq c =
+pub returns-else-same_event : goal.returns-else-same_event
+returns-else-same_event c =
     let first = sym c.read_event.ensures ∙ c.in-Found.is in
     let second = sym c.read_event-in-loop-d.ensures ∙ c.in-Found-read_event.is in (
-      sym (c.loop-d.invariant.shared ∙ parts c.args.first.now c.args.second.now c.loop-d.at _ first _ second (not_same _ _ (λ same. let apart : c.in-Found.d ≡ c.in-Found-read_event.e → ⊥ = search rules in apart same))),
+      sym (c.loop-d.invariant.shared ∙ parts c.args.first.now c.args.second.now c.loop-d.at _ first _ second (sym c.same_event.ensures ∙ c.if-same_event.false)),
       c.loop-d.invariant.inside,
     )
